@@ -1,0 +1,3 @@
+-- The definitions that the meaning of the bench is built from.
+pub mod Ranges
+pub mod Buffers

@@ -1,0 +1,24 @@
+-- Sums, statements and searches over the numbers below n. Assumes nothing.
+use Prim.Native.Nat.{ℕ, zero, suc, _+_}
+use mathlib.Core.Bool.{Bool, true, cond, _&&_}
+use lib.IntN.{ℤ, pos, _+ℤ_}
+
+-- f 0 + .. + f (n - 1), of whole numbers with a sign
+unfoldable pub sum : ℕ → (ℕ → ℤ) → ℤ
+sum zero f = pos 0
+sum (suc n) f = sum n f +ℤ f n
+
+-- f 0 + .. + f (n - 1), of numbers from 0 on
+unfoldable pub sumℕ : ℕ → (ℕ → ℕ) → ℕ
+sumℕ zero f = 0
+sumℕ (suc n) f = sumℕ n f + f n
+
+-- whether p holds at every number below n
+abbrev pub all : ℕ → (ℕ → Bool) → Bool
+all zero p = true
+all (suc n) p = p n && all n p
+
+-- of the c numbers from i on, the first at which p holds, or i + c where there is none
+unfoldable pub firstFrom : (ℕ → Bool) → ℕ → ℕ → ℕ
+firstFrom p i zero = i
+firstFrom p i (suc c) = let later = firstFrom p (suc i) c in cond (p i) i later

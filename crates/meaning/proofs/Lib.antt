@@ -1,0 +1,5 @@
+-- What pins the definitions: the request's examples, cases at every boundary, and the laws of the addition.
+pub mod Rows
+pub mod Examples
+pub mod Boundaries
+pub mod Addition

@@ -1,0 +1,9 @@
+-- What a reader of the bench must believe, in reading order.
+pub mod Design
+pub mod Analysis
+pub mod Publishing
+pub mod Fractions
+pub mod Refusals
+pub mod Calls
+pub mod File
+pub mod Text

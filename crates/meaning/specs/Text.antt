@@ -1,0 +1,99 @@
+-- The listing: the text that the bench prints for a file, line by line. Assumes nothing.
+use Prim.Native.Nat.{ℕ, zero, suc, _+_, _/_, _%_}
+use Prim.Native.Char.{code}
+use Prim.Native.String.{String, [] as none, _∷_ as _then_}
+use mathlib.Core.Bool.{cond}
+use mathlib.Core.List.{List, [], _∷_, _++_}
+use lib.ListN.{take, drop, length}
+use lib.IntN.{ℤ, pos, negsuc}
+use lib.Dec.{ltb}
+use Rattle.meaning.specs.declared.Head.{Head}
+use Rattle.meaning.specs.declared.Parameters.{Parameters}
+use Rattle.meaning.specs.declared.Spread.{Spread}
+use Rattle.meaning.specs.declared.Spread.the-variants.{Of, None}
+use Rattle.meaning.specs.declared.Spreading.{Spreading}
+use Rattle.meaning.specs.declared.Verdict.{Verdict}
+use Rattle.meaning.specs.declared.Verdict.the-variants.{Accepted, Refused}
+use Rattle.meaning.specs.declared.Listed.{Listed}
+use Rattle.meaning.specs.Design.{objects, blocks, parametersOf}
+use Rattle.meaning.specs.Analysis.{numeratorOf, denominatorOf, deviationOf, scale}
+use Rattle.meaning.specs.Publishing.{published}
+use Rattle.meaning.specs.Refusals.{room}
+use Rattle.meaning.specs.Calls.{given, spreadingOf}
+use Rattle.meaning.specs.File.{headOf, blocksOf, readingsOf, setOf, sumOf, readVerdict}
+
+-- a word in ASCII
+unfoldable pub ascii : String → List ℕ
+ascii none = []
+ascii (c then s) = code c ∷ ascii s
+
+-- the decimal digits of n, for n below 10 to the power s
+unfoldable pub digits : ℕ → ℕ → List ℕ
+digits zero n = []
+digits (suc s) n = let higher = digits s (n / 10) in cond (ltb n 10) ((48 + n) ∷ []) (higher ++ ((48 + n % 10) ∷ []))
+
+-- a number of a line, a space before it
+abbrev pub spaced : ℕ → List ℕ
+spaced n = 32 ∷ digits 20 n
+
+-- a number with its sign, a space before it
+abbrev pub signedText : ℤ → List ℕ
+signedText (pos n) = spaced n
+signedText (negsuc n) = 32 ∷ 45 ∷ digits 20 (suc n)
+
+-- f 0, then f 1 .. f (n - 1)
+unfoldable pub each : ℕ → (ℕ → List ℕ) → List ℕ
+each zero f = []
+each (suc n) f = each n f ++ f n
+
+-- a line: its first word, its numbers, a newline
+abbrev pub line : String → List ℕ → List ℕ
+line word rest = ascii word ++ rest ++ (10 ∷ [])
+
+-- v, b, r, p, L1, L2
+abbrev pub designLine : Parameters → List ℕ
+designLine p = line "design" (spaced (p .v) ++ spaced (p .b) ++ spaced (p .r) ++ spaced (p .p) ++ spaced (p .l1) ++ spaced (p .l2))
+
+-- object, numerator, denominator, hundredths
+abbrev pub valueLine : ℕ → ℤ → ℕ → ℤ → List ℕ
+valueLine i a d hundredths = line "value" (spaced i ++ signedText a ++ spaced d ++ signedText hundredths)
+
+-- block, numerator, denominator
+abbrev pub devLine : ℕ → ℤ → ℕ → List ℕ
+devLine k a d = line "dev" (spaced k ++ signedText a ++ spaced d)
+
+-- the last word of the listing: k, or none where there is no spread
+abbrev pub lastWord : Spread → ℕ → List ℕ
+lastWord (Of x f) k = spaced k
+lastWord None k = ascii " none"
+
+-- Q, v·beta, f, k
+abbrev pub spreadLine : Spreading → List ℕ
+spreadLine s = line "spread" (spaced (s .q) ++ spaced (s .scale) ++ spaced (s .freedom) ++ lastWord (s .spread) (s .hundredths))
+
+-- the listing of an accepted job
+abbrev pub jobText : Head → List ℕ → List ℤ → ℕ → ℤ → List ℕ
+jobText h d y w M = designLine (parametersOf h d)
+    ++ each (objects h) (λ i. valueLine i (numeratorOf h d y w M i) (denominatorOf h d w) (published h d y w M i))
+    ++ each (blocks h) (λ k. devLine k (deviationOf h d y k) (scale h d))
+    ++ spreadLine (spreadingOf h d y)
+
+-- the text for a file by its verdict: the listing, or refused, number, place
+abbrev pub textUnder : Verdict → List ℕ → List ℕ
+textUnder Accepted s = jobText (headOf s) (blocksOf s) (readingsOf s) (setOf s) (sumOf s)
+textUnder (Refused k place) s = line "refused" (spaced k ++ spaced place)
+
+-- the text for any file
+unfoldable pub textOf : List ℕ → List ℕ
+textOf s = textUnder (readVerdict s) s
+
+-- what the program prints for what stands on its standard input
+unfoldable pub benchText : List ℕ → List ℕ
+benchText input = textOf (take 8192 input)
+
+-- the answer of writing the text into lent room, and the room after
+abbrev pub listedAnswer : List ℕ → ℕ → Listed
+listedAnswer s len = record { verdict = room len (length (textOf s)); length = given (room len (length (textOf s))) (length (textOf s)) 0 }
+
+abbrev pub listedAfter : List ℕ → List ℕ → List ℕ
+listedAfter s out = given (room (length out) (length (textOf s))) (textOf s ++ drop (length (textOf s)) out) out

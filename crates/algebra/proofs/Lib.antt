@@ -1,6 +1,8 @@
 -- The laws of whole numbers, of ranges and of buffers that the other crates' proofs stand on.
+pub mod Tests
 pub mod Ring
 pub mod Solver
 pub mod Order
 pub mod Linear
 pub mod Sums
+pub mod Bounds

@@ -6,3 +6,7 @@ pub mod Order
 pub mod Linear
 pub mod Sums
 pub mod Bounds
+pub mod Numbers
+pub mod Signs
+pub mod Filling
+pub mod Writing

@@ -10,3 +10,4 @@ pub mod Numbers
 pub mod Signs
 pub mod Filling
 pub mod Writing
+pub mod Examples

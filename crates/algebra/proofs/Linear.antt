@@ -1,7 +1,7 @@
 -- Linear arithmetic over ℤ by `omega`: an expression over ℤ is a difference of two naturals, in the positive and negative parts of its unknowns, and an order or equation of ℤ is one of ℕ.
 -- `le₂ (λ x y. x ⊕ x ≐ x ⊕ y) x y (omega (arith, le₂⁻ (λ x y. x ≐ y) x y h)) : (x +ℤ x) ≤ℤ (x +ℤ y)`, from `h : x ≤ℤ y`. Assumes nothing.
-use mathlib.Core.Path.{_≡_, refl, sym, _∙_, ap, ap₂, subst, subst₂}
-use Prim.Native.Nat.{ℕ, zero, suc, _+_, _*_, _-_, _≤_, _<_}
+use mathlib.Core.Path.{_≡_, refl, sym, _∙_, ap, ap₂, subst₂}
+use Prim.Native.Nat.{ℕ, suc, _+_, _*_, _-_, _≤_, _<_}
 use native.Mathlib.Omega.{arith}
 use lib.IntN.{ℤ, pos, negsuc, negℤ, _+ℤ_, _-ℤ_, _*ℤ_, +ℤ-idl, +ℤ-idr}
 use lib.Signed.{_≤ℤ_, _<ℤ_}

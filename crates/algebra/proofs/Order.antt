@@ -4,9 +4,9 @@ use mathlib.Core.Bool.{Bool, true, false, not, cond}
 use mathlib.Core.Logic.{_⊎_, inl, inr, ⊎-elim}
 use Prim.Native.Nat.{ℕ, zero, suc, _+_, _*_, _-_, _≤_, _<_}
 use native.Mathlib.Omega.{arith}
-use lib.Dec.{T, leb, ltb, leb→le, le→leb, ltb→lt, lt→ltb, nltb→le}
-use lib.IntN.{ℤ, pos, negsuc, negℤ, natAbs, _+ℤ_, _-ℤ_, _*ℤ_, subℕ, +ℤ-idl, +ℤ-idr, +ℤ-invr, negℤ-negℤ}
-use lib.Signed.{_≤ℤ_, _<ℤ_, leZ, ltZ, ltZ-no, ≤ℤ-refl, <ℤ-irrefl, clashℤ}
+use lib.Dec.{T, ltb, leb→le, le→leb, ltb→lt, lt→ltb}
+use lib.IntN.{ℤ, pos, negsuc, negℤ, natAbs, _+ℤ_, _-ℤ_, _*ℤ_, +ℤ-idl, +ℤ-idr, +ℤ-invr, negℤ-negℤ}
+use lib.Signed.{_≤ℤ_, _<ℤ_, leZ, ltZ, ltZ-no, <ℤ-irrefl, clashℤ}
 use Rattle.algebra.proofs.Solver.{_⊕_, _⊗_, _⊝_, ⊖_, #, _≐_, ring₂, ring₃, ring₄, ring₅}
 
 -- ---- between the order of ℤ and the order of ℕ, for omega: `omega (arith, pos-≤, pos-≤⁻)`

@@ -4,7 +4,7 @@ use mathlib.Core.Path.{_≡_, refl, sym, _∙_, ap, ap₂}
 use mathlib.Core.Bool.{Bool, true, false, _&&_}
 use Prim.Native.Nat.{ℕ, zero, suc, _+_, _^_}
 use lib.Dec.{T, leb, eqb, eqb→eq}
-use lib.IntN.{ℤ, pos, negsuc, negℤ, _+ℤ_, _-ℤ_, _*ℤ_, +ℤ-idl, +ℤ-idr, +ℤ-assoc, +ℤ-comm, zero-*ℤ, *ℤ-zero, *ℤ-comm}
+use lib.IntN.{ℤ, pos, negsuc, negℤ, _+ℤ_, _*ℤ_, +ℤ-idl, +ℤ-idr, +ℤ-assoc, zero-*ℤ, *ℤ-zero}
 use Rattle.algebra.proofs.Tests.{and-0, and-1}
 use Rattle.algebra.proofs.Ring.{+ℤ-left-comm, distrib-r, distrib-l, neg-*ℤ, *ℤ-assoc, *ℤ-left-comm, *ℤ-swap, one-*ℤ, *ℤ-1}
 

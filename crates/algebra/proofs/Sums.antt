@@ -7,10 +7,10 @@ use native.Mathlib.Numerals.{add-one}
 use native.Mathlib.Omega.{arith}
 use native.Mathlib.Decide.{ℕ-discrete, decLe}
 use lib.Dec.{eqb}
-use lib.Signed.{_≤ℤ_, _<ℤ_, ≤ℤ-refl}
+use lib.Signed.{_≤ℤ_, ≤ℤ-refl}
 use borrow.Author.Tests.{eq-eqb, ne-eqb}
-use lib.IntN.{ℤ, pos, negsuc, negℤ, _+ℤ_, _-ℤ_, _*ℤ_, +ℤ-idl, +ℤ-idr}
-use Rattle.algebra.proofs.Solver.{_⊕_, _⊗_, _⊝_, ⊖_, #, _≐_, ring₁, ring₂, ring₃, ring₄}
+use lib.IntN.{ℤ, pos, negℤ, _+ℤ_, _-ℤ_, _*ℤ_, +ℤ-idl, +ℤ-idr}
+use Rattle.algebra.proofs.Solver.{_⊕_, _⊗_, ⊖_, #, _≐_, ring₁, ring₂, ring₃, ring₄}
 use Rattle.algebra.specs.Ranges.{sum, sumℕ}
 use Rattle.algebra.proofs.Order.{≤ℤ-+, +ℤ-nonneg, sq-nonneg, sq-zero, both-zero, pos-inj}
 

@@ -1,2 +1,432 @@
--- Cases that the request's examples do not reach, rows of a second table: every size and range at both its ends, and every two neighbouring refusals in one input. Assumes nothing.
-use mathlib.Core.List.{List, []}
+-- Cases that the request's examples do not reach, rows of a second table under one theorem: every size and range at both its ends, every two neighbouring
+-- refusals in one input, what each buffer and record holds after, and the listings of files with ∞, with no spread and with halves. The figures were
+-- worked out apart from these definitions. Assumes nothing.
+use Prim.Native.Nat.{ℕ, zero, suc}
+use mathlib.Core.Bool.{true, false}
+use mathlib.Core.List.{List, [], _∷_, _++_, replicate}
+use mathlib.Core.Path.{_≡_, refl}
+use native.Mathlib.Nat.{le-refl}
+use native.Mathlib.Omega.{arith}
+use lib.IntN.{ℤ, pos, negsuc}
+use lib.Ieee.{round, fin}
+use lib.ListN.{getD, set, take}
+use Rattle.algebra.specs.Buffers.{over}
+use Rattle.algebra.specs.Ranges.{sum, sumℕ, firstFrom}
+use Rattle.meaning.specs.declared.Head.{Head}
+use Rattle.meaning.specs.declared.Verdict.{Verdict}
+use Rattle.meaning.specs.declared.Judged.{Judged}
+use Rattle.meaning.specs.Design.{sized, occ, plus, left, right, company, opposition, balanced, beta}
+use Rattle.meaning.specs.Analysis.{total, members, restrained, numeratorOf, denominatorOf, along, difference, deviationOf, squaredReadings, squaredTotals, qOf, root, spreadHundredths, spreadHundredthsOf}
+use Rattle.meaning.specs.Publishing.{published, float, floatZero, Near, noValue, spreadOf, spreadFreedom, spreadValue}
+use Rattle.meaning.specs.Fractions.{Fraction, _=ᶠ_, summed, valuesAlong, deviationUnder, squaresUnder, KeepsRestraint, exactValues, publishedValues}
+use Rattle.meaning.specs.Refusals.{offender, farReading, sizes, accepted, refused}
+use Rattle.meaning.specs.Calls.{
+  word,
+  wordAt,
+  tableOf,
+  designVerdict,
+  developVerdict,
+  wordsUnder,
+  initialVerdict,
+  initialWords,
+  companyTable,
+  oppositionTable,
+  judgeVerdict,
+  judged,
+  slices,
+  contents,
+  jobVerdict,
+  totalVerdict,
+  totalAnswer,
+  valuesVerdict,
+  valuesUnder,
+  valueVerdict,
+  valueAnswer,
+  readingsVerdict,
+  deviationsVerdict,
+  deviationsUnder,
+  deviationVerdict,
+  deviationAnswer,
+  squaredReadingsVerdict,
+  squaredReadingsAnswer,
+  squaredTotalsVerdict,
+  squaredTotalsAnswer,
+  qAnswer,
+  spreadAnswer,
+  rooms,
+  analyseVerdict,
+  solvedUnder,
+}
+use Rattle.meaning.specs.File.{big, twos, numbersAt, fieldVerdict, fieldAt, fieldSays, fieldStart, fieldNext, fields, readVerdict, solveVerdict, readAnswer, headOf, blocksOf, readingsOf}
+use Rattle.meaning.specs.Text.{ascii, digits, spaced, signedText, each, textOf, benchText, listedAnswer, listedAfter}
+use Rattle.meaning.proofs.Rows.{Row, lists, refuses, spreads, publishes, holding, counting, floats, head, every}
+use Rattle.meaning.proofs.Examples.{fileA}
+
+-- three objects, one initial block {0},{1}: balanced, with b = 3
+abbrev three : Head
+three = head 3 0 1 1
+
+-- four objects, the same initial block: not balanced, with b = 4
+abbrev four : Head
+four = head 4 0 1 1
+
+-- three residues and ∞, {0},{1} and {0},{∞}: balanced, with b = 6
+abbrev withInfinity : Head
+withInfinity = head 3 1 1 2
+
+abbrev pair : List ℕ
+pair = 0 ∷ 1 ∷ []
+
+abbrev pairs : List ℕ
+pairs = 0 ∷ 1 ∷ 0 ∷ 255 ∷ []
+
+-- readings for three and for four, and with one out of range
+abbrev ys : List ℤ
+ys = pos 4 ∷ negsuc 2 ∷ pos 2 ∷ []
+
+abbrev ys4 : List ℤ
+ys4 = pos 4 ∷ negsuc 2 ∷ pos 2 ∷ pos 0 ∷ []
+
+abbrev far : List ℤ
+far = pos 200000 ∷ negsuc 200000 ∷ pos 200001 ∷ []
+
+abbrev far4 : List ℤ
+far4 = negsuc 199999 ∷ negsuc 200000 ∷ pos 200001 ∷ pos 0 ∷ []
+
+-- ---- 4: each size at both its ends
+abbrev sizeRows : List Row
+sizeRows =
+    refuses (sizes (head 3 0 1 1)) 0 0
+    ∷ refuses (sizes (head 2 1 1 1)) 4 0
+    ∷ refuses (sizes (head 50 0 25 26)) 0 0
+    ∷ refuses (sizes (head 51 0 1 1)) 4 0
+    ∷ refuses (sizes (head 49 1 25 26)) 0 0
+    ∷ refuses (sizes (head 50 1 25 26)) 4 0
+    ∷ refuses (sizes (head 40 2 1 1)) 4 0
+    ∷ refuses (sizes (head 5 0 0 1)) 4 0
+    ∷ refuses (sizes (head 3 1 2 1)) 0 0
+    ∷ refuses (sizes (head 3 0 2 1)) 4 0
+    ∷ refuses (sizes (head 5 0 2 0)) 4 0
+    ∷ refuses (sizes (head 20 0 1 64)) 0 0
+    ∷ refuses (sizes (head 3 0 1 65)) 4 0
+    ∷ refuses (sizes (head 21 0 1 62)) 4 0
+    ∷ refuses (sizes (head 18446744073709551615 18446744073709551615 18446744073709551615 18446744073709551615)) 4 0
+    ∷ []
+
+-- ---- the calls on a design, two faults at a time
+abbrev designRows : List Row
+designRows =
+    refuses (designVerdict (head 2 0 1 1) (0 ∷ [])) 4 0
+    ∷ refuses (designVerdict three (0 ∷ [])) 3 0
+    ∷ refuses (designVerdict three (0 ∷ 3 ∷ 0 ∷ [])) 3 0
+    ∷ refuses (designVerdict three (0 ∷ 3 ∷ [])) 5 1
+    ∷ refuses (designVerdict three (3 ∷ 3 ∷ [])) 5 0
+    ∷ refuses (designVerdict three (2 ∷ 2 ∷ [])) 5 1
+    ∷ refuses (designVerdict three (2 ∷ 255 ∷ [])) 5 1
+    ∷ refuses (designVerdict withInfinity pairs) 0 0
+    ∷ refuses (designVerdict withInfinity (255 ∷ 255 ∷ 0 ∷ 1 ∷ [])) 5 1
+    ∷ refuses (designVerdict withInfinity (0 ∷ 1 ∷ 255 ∷ 3 ∷ [])) 5 3
+    ∷ refuses (designVerdict (head 5 0 2 2) (0 ∷ 1 ∷ 2 ∷ 0 ∷ 1 ∷ 1 ∷ 2 ∷ 3 ∷ [])) 5 3
+    ∷ refuses (designVerdict (head 5 0 2 2) (0 ∷ 1 ∷ 2 ∷ 4 ∷ 1 ∷ 1 ∷ 2 ∷ 3 ∷ [])) 5 5
+    ∷ refuses (designVerdict (head 5 0 2 2) (0 ∷ 1 ∷ 2 ∷ 4 ∷ 1 ∷ 0 ∷ 2 ∷ 3 ∷ [])) 0 0
+    ∷ refuses (developVerdict three (0 ∷ 0 ∷ []) 5) 5 1
+    ∷ refuses (developVerdict three pair 5) 10 0
+    ∷ refuses (developVerdict four pair 8) 0 0
+    ∷ refuses (initialVerdict three (0 ∷ 0 ∷ []) 1 5) 5 1
+    ∷ refuses (initialVerdict withInfinity pairs 2 11) 5 2
+    ∷ refuses (initialVerdict withInfinity pairs 1 11) 10 0
+    ∷ refuses (initialVerdict withInfinity pairs 1 12) 0 0
+    ∷ refuses (initialVerdict four pair 0 8) 0 0
+    ∷ refuses (judgeVerdict three (0 ∷ 0 ∷ [])) 5 1
+    ∷ refuses (judgeVerdict four pair) 6 0
+    ∷ refuses (judgeVerdict withInfinity (0 ∷ 1 ∷ 0 ∷ 2 ∷ [])) 6 0
+    ∷ []
+
+-- ---- the calls on readings, two faults at a time
+abbrev callRows : List Row
+callRows =
+    refuses (slices (head 3 0 1 65) [] []) 4 0
+    ∷ refuses (slices three pair (pos 0 ∷ [])) 3 0
+    ∷ refuses (slices three pair ys4) 3 0
+    ∷ refuses (slices three (0 ∷ []) ys) 3 0
+    ∷ refuses (totalVerdict three (0 ∷ 3 ∷ []) ys4 3) 3 0
+    ∷ refuses (totalVerdict three (0 ∷ 3 ∷ []) far 3) 5 1
+    ∷ refuses (totalVerdict three pair far 3) 5 3
+    ∷ refuses (totalVerdict three pair far 2) 8 1
+    ∷ refuses (totalVerdict four pair ys4 3) 0 0
+    ∷ refuses (valuesVerdict three (0 ∷ 0 ∷ []) far 0 (pos 0) 0) 5 1
+    ∷ refuses (valuesVerdict four pair far4 0 (pos 0) 0) 6 0
+    ∷ refuses (valuesVerdict three pair far 0 (pos 0) 0) 7 0
+    ∷ refuses (valuesVerdict three pair far 8 (pos 0) 0) 7 0
+    ∷ refuses (valuesVerdict three pair far 7 (pos 1000000001) 0) 7 0
+    ∷ refuses (valuesVerdict three pair far 7 (negsuc 1000000000) 0) 7 0
+    ∷ refuses (valuesVerdict three pair far 7 (pos 1000000000) 0) 8 1
+    ∷ refuses (valuesVerdict three pair ys 7 (negsuc 999999999) 2) 10 0
+    ∷ refuses (valuesVerdict three pair ys 1 (pos 1000000000) 3) 0 0
+    ∷ refuses (valueVerdict four (0 ∷ 0 ∷ []) far4 0 (pos 0) 4) 5 1
+    ∷ refuses (valueVerdict four pair far4 0 (pos 0) 4) 5 4
+    ∷ refuses (valueVerdict four pair far4 0 (pos 0) 3) 6 0
+    ∷ refuses (valueVerdict three pair far 0 (pos 0) 2) 7 0
+    ∷ refuses (valueVerdict three pair far 7 (pos 0) 2) 8 1
+    ∷ refuses (valueVerdict three pair ys 7 (pos 0) 2) 0 0
+    ∷ refuses (deviationsVerdict four pair far4 0) 6 0
+    ∷ refuses (deviationsVerdict three pair far 0) 8 1
+    ∷ refuses (deviationsVerdict three pair ys 2) 10 0
+    ∷ refuses (deviationsVerdict three pair ys 3) 0 0
+    ∷ refuses (deviationVerdict four (1 ∷ 1 ∷ []) far4 4) 5 1
+    ∷ refuses (deviationVerdict four pair far4 4) 5 4
+    ∷ refuses (deviationVerdict four pair far4 3) 6 0
+    ∷ refuses (deviationVerdict three pair far 2) 8 1
+    ∷ refuses (deviationVerdict three pair ys 2) 0 0
+    ∷ refuses (squaredReadingsVerdict (head 2 0 1 1) []) 4 0
+    ∷ refuses (squaredReadingsVerdict three far4) 3 0
+    ∷ refuses (squaredReadingsVerdict three far) 8 1
+    ∷ refuses (squaredReadingsVerdict four ys4) 0 0
+    ∷ refuses (squaredTotalsVerdict three (0 ∷ 0 ∷ []) far) 5 1
+    ∷ refuses (squaredTotalsVerdict four pair far4) 8 1
+    ∷ refuses (squaredTotalsVerdict four pair ys4) 0 0
+    ∷ refuses (readingsVerdict three (0 ∷ 0 ∷ []) far) 5 1
+    ∷ refuses (readingsVerdict four pair far4) 6 0
+    ∷ refuses (readingsVerdict three pair far) 8 1
+    ∷ refuses (jobVerdict four pair far4 0 (pos 0)) 6 0
+    ∷ refuses (jobVerdict three pair far 0 (pos 0)) 7 0
+    ∷ refuses (jobVerdict three pair far 4 (pos 0)) 8 1
+    ∷ refuses (analyseVerdict three pair far 4 (pos 0) 0 0 0) 8 1
+    ∷ refuses (analyseVerdict three pair ys 4 (pos 0) 5 3 3) 10 0
+    ∷ refuses (analyseVerdict three pair ys 4 (pos 0) 6 2 3) 10 0
+    ∷ refuses (analyseVerdict three pair ys 4 (pos 0) 6 3 2) 10 0
+    ∷ refuses (analyseVerdict three pair ys 4 (pos 0) 6 3 3) 0 0
+    ∷ []
+
+-- ---- what records and buffers hold after
+abbrev zeros : ℕ → List ℕ
+zeros zero = []
+zeros (suc n) = 0 ∷ zeros n
+
+abbrev parametersHeld : Judged → List ℕ
+parametersHeld j = j .parameters .v ∷ j .parameters .b ∷ j .parameters .r ∷ j .parameters .p ∷ j .parameters .l1 ∷ j .parameters .l2 ∷ []
+
+abbrev heldRows : List Row
+heldRows =
+    holding (wordsUnder (developVerdict withInfinity pairs 14) withInfinity pairs (replicate 14 77))
+    (1 ∷ 2 ∷ 2 ∷ 4 ∷ 4 ∷ 1 ∷ 1 ∷ 8 ∷ 2 ∷ 8 ∷ 4 ∷ 8 ∷ 77 ∷ 77 ∷ [])
+    ∷ holding (wordsUnder (developVerdict withInfinity pairs 11) withInfinity pairs (replicate 11 77)) (replicate 11 77)
+    ∷ holding (initialWords withInfinity pairs 1 (replicate 14 77)) (77 ∷ 77 ∷ 77 ∷ 77 ∷ 77 ∷ 77 ∷ 1 ∷ 8 ∷ 2 ∷ 8 ∷ 4 ∷ 8 ∷ 77 ∷ 77 ∷ [])
+    ∷ holding (initialWords withInfinity pairs 0 (replicate 12 77)) (1 ∷ 2 ∷ 2 ∷ 4 ∷ 4 ∷ 1 ∷ 77 ∷ 77 ∷ 77 ∷ 77 ∷ 77 ∷ 77 ∷ [])
+    ∷ holding (initialWords withInfinity pairs 2 (replicate 14 77)) (replicate 14 77)
+    ∷ holding (initialWords withInfinity pairs 1 (replicate 11 77)) (replicate 11 77)
+    ∷ holding (wordAt (head 50 0 1 1) (0 ∷ 49 ∷ []) 1 ∷ wordAt (head 49 1 1 1) (255 ∷ 48 ∷ []) 4 ∷ wordAt (head 50 0 1 1) (0 ∷ 49 ∷ []) 3 ∷ [])
+    (562949953421312 ∷ 562949953421312 ∷ 1 ∷ [])
+    ∷ holding (getD (companyTable four pair) 1 []) (0 ∷ 2 ∷ zeros 48)
+    ∷ holding (getD (oppositionTable four pair) 0 []) (0 ∷ 1 ∷ 0 ∷ 1 ∷ zeros 46)
+    ∷ holding (getD (companyTable four pair) 4 []) (zeros 50)
+    ∷ holding (getD (oppositionTable four pair) 49 []) (zeros 50)
+    ∷ holding (getD (companyTable withInfinity pairs) 3 []) (0 ∷ 0 ∷ 0 ∷ 3 ∷ zeros 46)
+    ∷ holding (getD (oppositionTable withInfinity pairs) 3 []) (1 ∷ 1 ∷ 1 ∷ 0 ∷ zeros 46)
+    ∷ holding (getD (companyTable (head 5 0 2 1) (1 ∷ 4 ∷ 2 ∷ 3 ∷ [])) 0 []) (4 ∷ 1 ∷ 1 ∷ 1 ∷ 1 ∷ zeros 45)
+    ∷ holding (getD (oppositionTable (head 5 0 2 1) (1 ∷ 4 ∷ 2 ∷ 3 ∷ [])) 4 []) (2 ∷ 2 ∷ 2 ∷ 2 ∷ 0 ∷ zeros 45)
+    ∷ holding (getD (companyTable four (0 ∷ 0 ∷ [])) 0 []) (zeros 50)
+    ∷ holding (getD (oppositionTable four (0 ∷ 4 ∷ [])) 1 []) (zeros 50)
+    ∷ holding (parametersHeld (judged withInfinity pairs)) (4 ∷ 6 ∷ 3 ∷ 1 ∷ 0 ∷ 1 ∷ [])
+    ∷ holding (parametersHeld (judged four pair)) (zeros 6)
+    ∷ counting 2 (λ i. totalAnswer four pair ys4 i .total) (pos 4 ∷ negsuc 6 ∷ [])
+    ∷ counting 1 (λ i. totalAnswer four pair far4 i .total) (pos 0 ∷ [])
+    ∷ counting 5 (λ i. getD (valuesUnder (valuesVerdict three pair ys 5 (negsuc 0) 4) three pair ys 5 (negsuc 0) (pos 9 ∷ pos 9 ∷ pos 9 ∷ pos 9 ∷ [])) i (pos 7))
+    (negsuc 5 ∷ negsuc 23 ∷ pos 0 ∷ pos 9 ∷ pos 7 ∷ [])
+    ∷ counting 3 (λ i. getD (valuesUnder (valuesVerdict three pair ys 5 (negsuc 0) 2) three pair ys 5 (negsuc 0) (pos 9 ∷ pos 9 ∷ [])) i (pos 7)) (pos 9 ∷ pos 9 ∷ pos 7 ∷ [])
+    ∷ counting 5 (λ i. getD (deviationsUnder (deviationsVerdict three pair ys 4) three pair ys (pos 9 ∷ pos 9 ∷ pos 9 ∷ pos 9 ∷ [])) i (pos 7)) (pos 3 ∷ pos 3 ∷ pos 3 ∷ pos 9 ∷ pos 7 ∷ [])
+    ∷ counting 3 (λ i. getD (deviationsUnder (deviationsVerdict three pair ys 2) three pair ys (pos 9 ∷ pos 9 ∷ [])) i (pos 7)) (pos 9 ∷ pos 9 ∷ pos 7 ∷ [])
+    ∷ counting 2 (λ i. getD (valueAnswer three pair ys 5 (negsuc 0) 1 .value .numerator ∷ valueAnswer three pair ys 5 (negsuc 0) 1 .value .hundredths ∷ []) i (pos 7)) (negsuc 23 ∷ negsuc 399 ∷ [])
+    ∷ holding (valueAnswer three pair ys 5 (negsuc 0) 1 .value .denominator ∷ valueAnswer three pair ys 0 (negsuc 0) 1 .value .denominator ∷ []) (6 ∷ 0 ∷ [])
+    ∷ counting 2 (λ i. getD (valueAnswer three pair ys 0 (negsuc 0) 1 .value .numerator ∷ valueAnswer three pair ys 0 (negsuc 0) 1 .value .hundredths ∷ []) i (pos 7)) (pos 0 ∷ pos 0 ∷ [])
+    ∷ counting 2 (λ i. getD (deviationAnswer three pair ys 1 .numerator ∷ deviationAnswer four pair ys4 1 .numerator ∷ []) i (pos 7)) (pos 3 ∷ pos 0 ∷ [])
+    ∷ holding (deviationAnswer three pair ys 1 .denominator ∷ deviationAnswer four pair ys4 1 .denominator ∷ []) (3 ∷ 0 ∷ [])
+    ∷ holding
+    (squaredReadingsAnswer three ys .sum ∷ squaredTotalsAnswer three pair ys .sum ∷ qAnswer three pair ys .sum ∷ squaredReadingsAnswer three far .sum ∷ squaredTotalsAnswer three pair far .sum ∷ qAnswer three pair far .sum ∷ [])
+    (29 ∷ 78 ∷ 9 ∷ 0 ∷ 0 ∷ 0 ∷ [])
+    ∷ holding
+    (spreadAnswer three pair ys .spreading .q ∷ spreadAnswer three pair ys .spreading .vbeta ∷ spreadAnswer three pair ys .spreading .freedom ∷ spreadAnswer three pair ys .spreading .hundredths ∷ spreadFreedom (spreadAnswer three pair ys .spreading .spread) ∷ [])
+    (9 ∷ 3 ∷ 1 ∷ 173 ∷ 1 ∷ [])
+    ∷ holding
+    (spreadAnswer four pair ys4 .spreading .q ∷ spreadAnswer four pair ys4 .spreading .vbeta ∷ spreadAnswer four pair ys4 .spreading .freedom ∷ spreadAnswer four pair ys4 .spreading .hundredths ∷ spreadFreedom (spreadAnswer four pair ys4 .spreading .spread) ∷ [])
+    (zeros 5)
+    ∷ holding
+    (solvedUnder accepted three pair ys 5 .parameters .b ∷ solvedUnder accepted three pair ys 5 .denominator ∷ solvedUnder accepted three pair ys 5 .spreading .q ∷ [])
+    (3 ∷ 6 ∷ 9 ∷ [])
+    ∷ holding
+    (solvedUnder (refused 10 0) three pair ys 5 .parameters .b ∷ solvedUnder (refused 10 0) three pair ys 5 .denominator ∷ solvedUnder (refused 10 0) three pair ys 5 .spreading .q ∷ spreadFreedom (solvedUnder (refused 10 0) three pair ys 5 .spreading .spread) ∷ [])
+    (zeros 4)
+    ∷ []
+
+-- ---- fractions, floats and roots
+abbrev numberRows : List Row
+numberRows =
+    publishes (pos 5) 8 (pos 62)
+    ∷ publishes (pos 7) 8 (pos 88)
+    ∷ publishes (negsuc 2) 8 (negsuc 37)
+    ∷ publishes (pos 1) 3 (pos 33)
+    ∷ publishes (pos 2) 3 (pos 67)
+    ∷ publishes (negsuc 0) 3 (negsuc 32)
+    ∷ publishes (negsuc 1) 3 (negsuc 66)
+    ∷ publishes (pos 1) 200 (pos 0)
+    ∷ publishes (pos 3) 200 (pos 2)
+    ∷ publishes (negsuc 0) 200 (pos 0)
+    ∷ publishes (pos 0) 5 (pos 0)
+    ∷ publishes (pos 9) 1 (pos 900)
+    ∷ spreads 4 1 1 200
+    ∷ spreads 1 3 3 33
+    ∷ spreads 9 3 1 173
+    ∷ spreads 0 5 1 0
+    ∷ spreads 7 5 0 0
+    ∷ spreads 3 1 1 173
+    ∷ spreads 70304000000000000 1 1 26514901470
+    ∷ floats (float (pos 1) 3) (fin true 0 (pos 0)) 0
+    ∷ floats (float (pos 1) 3) (fin false 6004799503160661 (negsuc 53)) 1
+    ∷ floats (float (negsuc 1) 3) (fin true 6004799503160661 (negsuc 52)) 1
+    ∷ floats (float (pos 0) 3) floatZero 1
+    ∷ floats (spreadValue (spreadOf 25 1)) (fin false 1 (negsuc 1)) 1
+    ∷ floats (spreadValue (spreadOf 25 0)) floatZero 1
+    ∷ floats (valueAnswer three pair ys 5 (negsuc 0) 1 .value .value) (fin true 1 (pos 2)) 1
+    ∷ floats (noValue .value) floatZero 1
+    ∷ floats (valueAnswer three pair ys 0 (negsuc 0) 1 .value .value) floatZero 1
+    ∷ holding (spreadFreedom (spreadOf 25 4) ∷ spreadFreedom (spreadOf 25 0) ∷ []) (4 ∷ 0 ∷ [])
+    ∷ []
+
+-- ---- files: fields, refusals in file order, and what they hold
+abbrev fileC : List ℕ
+fileC =
+    1 ∷ 0 ∷ 4 ∷ 4 ∷ 0 ∷ 1 ∷ 1
+    ∷ 2 ∷ 0 ∷ 2 ∷ 0 ∷ 1
+    ∷ 3 ∷ 0 ∷ 16 ∷ 0 ∷ 0 ∷ 0 ∷ 0 ∷ 0 ∷ 0 ∷ 0 ∷ 0 ∷ 0 ∷ 0 ∷ 0 ∷ 0 ∷ 0 ∷ 0 ∷ 0 ∷ 7
+    ∷ 4 ∷ 0 ∷ 16 ∷ 0 ∷ 0 ∷ 0 ∷ 11 ∷ 128 ∷ 0 ∷ 0 ∷ 0 ∷ 0 ∷ 0 ∷ 0 ∷ 4 ∷ 0 ∷ 0 ∷ 0 ∷ 1 ∷ []
+
+abbrev fileRows : List Row
+fileRows =
+    refuses (readVerdict []) 1 0
+    ∷ refuses (readVerdict (9 ∷ 0 ∷ [])) 1 0
+    ∷ refuses (readVerdict (2 ∷ 0 ∷ 5 ∷ [])) 2 0
+    ∷ refuses (readVerdict (1 ∷ 0 ∷ 5 ∷ [])) 3 0
+    ∷ refuses (readVerdict (1 ∷ 4 ∷ 0 ∷ [])) 3 0
+    ∷ refuses (readVerdict (take 6 fileA)) 1 0
+    ∷ refuses (readVerdict (take 7 (set fileA 3 2))) 4 0
+    ∷ refuses (readVerdict (set (set fileA 5 129) 7 9)) 4 0
+    ∷ refuses (readVerdict (take 7 fileA)) 1 7
+    ∷ refuses (readVerdict (take 9 (set fileA 7 9))) 1 7
+    ∷ refuses (readVerdict (take 10 (set (set fileA 7 9) 9 5))) 2 7
+    ∷ refuses (readVerdict (take 10 (set fileA 9 5))) 3 7
+    ∷ refuses (readVerdict (take 13 fileA)) 1 7
+    ∷ refuses (readVerdict (take 16 fileA)) 1 14
+    ∷ refuses (readVerdict (take 17 (set (set fileA 14 4) 16 15))) 2 14
+    ∷ refuses (readVerdict (take 17 (set fileA 16 15))) 3 14
+    ∷ refuses (readVerdict (take 32 fileA)) 1 14
+    ∷ refuses (readVerdict (take 35 fileA)) 1 33
+    ∷ refuses (readVerdict (take 36 (set (set fileA 33 3) 35 21))) 2 33
+    ∷ refuses (readVerdict (take 36 (set fileA 35 21))) 3 33
+    ∷ refuses (readVerdict (take 55 fileA)) 1 33
+    ∷ refuses (readVerdict (set fileA 10 5 ++ (0 ∷ []))) 9 56
+    ∷ refuses (readVerdict (set (set fileA 10 5) 24 0)) 5 10
+    ∷ refuses (readVerdict (set (set fileA 11 255) 13 1)) 5 11
+    ∷ refuses (readVerdict (set fileA 13 1)) 5 13
+    ∷ refuses (readVerdict fileC) 6 0
+    ∷ refuses (readVerdict (set fileC 11 3)) 6 0
+    ∷ refuses (readVerdict (set (set fileA 24 0) 36 1)) 7 14
+    ∷ refuses (readVerdict (set fileA 24 32)) 7 14
+    ∷ refuses (readVerdict (set fileA 17 128)) 7 14
+    ∷ refuses (readVerdict (set fileA 25 128)) 7 14
+    ∷ refuses (readVerdict (set fileA 29 64)) 7 14
+    ∷ refuses (readVerdict (set (set fileA 40 0) 44 1)) 8 40
+    ∷ refuses (readVerdict (set fileA 52 0)) 8 52
+    ∷ refuses (readVerdict (set fileA 36 128)) 8 36
+    ∷ refuses (solveVerdict (set fileA 52 0) 0 0 0) 8 52
+    ∷ refuses (solveVerdict fileA 9 5 5) 10 0
+    ∷ refuses (solveVerdict fileA 10 4 5) 10 0
+    ∷ refuses (solveVerdict fileA 10 5 4) 10 0
+    ∷ refuses (solveVerdict fileA 10 5 5) 0 0
+    ∷ refuses (fieldSays (fieldAt fileA 56 4 20)) 1 56
+    ∷ refuses (fieldSays (fieldAt fileA 18446744073709551615 4 20)) 1 18446744073709551615
+    ∷ refuses (fieldSays (fieldAt fileA 33 4 20)) 0 0
+    ∷ refuses (fieldSays (fieldAt fileA 33 4 65556)) 3 33
+    ∷ holding
+    (fieldNext (fieldAt fileA 33 4 20) 33 ∷ fieldNext (fieldAt fileA 33 4 21) 33 ∷ fieldNext (fieldAt fileA 7 2 4) 7 ∷ fieldNext (fieldAt fileA 99 2 4) 99 ∷ [])
+    (56 ∷ 33 ∷ 14 ∷ 99 ∷ [])
+    ∷ holding (fieldStart (fieldAt fileA 33 4 20) ∷ fieldStart (fieldAt fileA 33 4 21) ∷ []) (36 ∷ 0 ∷ [])
+    ∷ holding (big fileA 33 3 ∷ big fileA 40 4 ∷ big fileA 55 3 ∷ []) (262164 ∷ 4294967293 ∷ 16252928 ∷ [])
+    ∷ counting 6 (λ i. getD (twos 32 2147483647 ∷ twos 32 2147483648 ∷ twos 32 4294967295 ∷ twos 64 9223372036854775807 ∷ twos 64 9223372036854775808 ∷ twos 64 18446744073709551615 ∷ []) i (pos 7))
+    (pos 2147483647 ∷ negsuc 2147483647 ∷ negsuc 0 ∷ pos 9223372036854775807 ∷ negsuc 9223372036854775807 ∷ negsuc 0 ∷ [])
+    ∷ holding
+    (readAnswer fileA .head .n ∷ readAnswer fileA .head .flag ∷ readAnswer fileA .head .p ∷ readAnswer fileA .head .m ∷ readAnswer fileA .«blocks_at» ∷ readAnswer fileA .«readings_at» ∷ readAnswer fileA .set ∷ [])
+    (5 ∷ 0 ∷ 2 ∷ 1 ∷ 10 ∷ 36 ∷ 3 ∷ [])
+    ∷ holding
+    (readAnswer fileC .head .n ∷ readAnswer fileC .head .flag ∷ readAnswer fileC .head .p ∷ readAnswer fileC .head .m ∷ readAnswer fileC .«blocks_at» ∷ readAnswer fileC .«readings_at» ∷ readAnswer fileC .set ∷ [])
+    (zeros 7)
+    ∷ counting 2 (λ i. getD (readAnswer fileA .sum ∷ readAnswer fileC .sum ∷ []) i (pos 5)) (pos 7 ∷ pos 0 ∷ [])
+    ∷ []
+
+-- ---- listings
+-- three residues and ∞, restraint 0 and ∞, M -5, readings at both ends of their range
+abbrev fileInfinity : List ℕ
+fileInfinity =
+    1 ∷ 0 ∷ 4 ∷ 3 ∷ 1 ∷ 1 ∷ 2
+    ∷ 2 ∷ 0 ∷ 4 ∷ 0 ∷ 1 ∷ 0 ∷ 255
+    ∷ 3 ∷ 0 ∷ 16 ∷ 0 ∷ 0 ∷ 0 ∷ 0 ∷ 0 ∷ 0 ∷ 0 ∷ 9 ∷ 255 ∷ 255 ∷ 255 ∷ 255 ∷ 255 ∷ 255 ∷ 255 ∷ 251
+    ∷ 4 ∷ 0 ∷ 24 ∷ 0 ∷ 0 ∷ 0 ∷ 7 ∷ 255 ∷ 252 ∷ 242 ∷ 192 ∷ 0 ∷ 3 ∷ 13 ∷ 64 ∷ 255 ∷ 255 ∷ 255 ∷ 255 ∷ 0 ∷ 0 ∷ 0 ∷ 0 ∷ 0 ∷ 0 ∷ 0 ∷ 3 ∷ []
+
+-- {∞,0},{1,2}: no degree of freedom; M at its upper end
+abbrev fileNone : List ℕ
+fileNone =
+    1 ∷ 0 ∷ 4 ∷ 3 ∷ 1 ∷ 2 ∷ 1
+    ∷ 2 ∷ 0 ∷ 4 ∷ 255 ∷ 0 ∷ 1 ∷ 2
+    ∷ 3 ∷ 0 ∷ 16 ∷ 0 ∷ 0 ∷ 0 ∷ 0 ∷ 0 ∷ 0 ∷ 0 ∷ 6 ∷ 0 ∷ 0 ∷ 0 ∷ 0 ∷ 59 ∷ 154 ∷ 202 ∷ 0
+    ∷ 4 ∷ 0 ∷ 12 ∷ 0 ∷ 0 ∷ 0 ∷ 10 ∷ 255 ∷ 255 ∷ 255 ∷ 249 ∷ 0 ∷ 0 ∷ 0 ∷ 2 ∷ []
+
+-- every object restrained, M at its lower end, and readings of 0, which are readings as any other
+abbrev fileZero : List ℕ
+fileZero =
+    1 ∷ 0 ∷ 4 ∷ 5 ∷ 0 ∷ 2 ∷ 1
+    ∷ 2 ∷ 0 ∷ 4 ∷ 1 ∷ 4 ∷ 2 ∷ 3
+    ∷ 3 ∷ 0 ∷ 16 ∷ 0 ∷ 0 ∷ 0 ∷ 0 ∷ 0 ∷ 0 ∷ 0 ∷ 31 ∷ 255 ∷ 255 ∷ 255 ∷ 255 ∷ 196 ∷ 101 ∷ 54 ∷ 0
+    ∷ 4 ∷ 0 ∷ 20 ∷ 0 ∷ 0 ∷ 0 ∷ 0 ∷ 0 ∷ 0 ∷ 0 ∷ 0 ∷ 0 ∷ 0 ∷ 0 ∷ 0 ∷ 0 ∷ 0 ∷ 0 ∷ 0 ∷ 0 ∷ 0 ∷ 0 ∷ 0 ∷ []
+
+unfoldable pub listingRows : List Row
+unfolding ascii
+listingRows =
+    lists fileInfinity
+    (ascii "design 4 6 3 1 0 1\nvalue 0 -200012 8 -2500150\nvalue 1 -200038 8 -2500475\nvalue 2 999982 8 12499775\nvalue 3 199972 8 2499650\ndev 0 15 4\ndev 1 -199990 4\ndev 2 200003 4\ndev 3 199988 4\ndev 4 200005 4\ndev 5 -399993 4\nspread 79997200138 4 3 8164822\n")
+    ∷ lists fileNone
+    (ascii "design 4 3 3 2 1 2\nvalue 0 4000000050 8 50000000625\nvalue 1 3999999982 8 49999999775\nvalue 2 4000000018 8 50000000225\nvalue 3 4000000030 8 50000000375\ndev 0 0 4\ndev 1 0 4\ndev 2 0 4\nspread 0 4 0 none\n")
+    ∷ lists fileZero
+    (ascii "design 5 5 4 2 1 2\nvalue 0 -5000000000 25 -20000000000\nvalue 1 -5000000000 25 -20000000000\nvalue 2 -5000000000 25 -20000000000\nvalue 3 -5000000000 25 -20000000000\nvalue 4 -5000000000 25 -20000000000\ndev 0 0 5\ndev 1 0 5\ndev 2 0 5\ndev 3 0 5\ndev 4 0 5\nspread 0 5 1 0\n")
+    ∷ lists (fileA ++ (0 ∷ [])) (ascii "refused 9 56\n")
+    ∷ lists [] (ascii "refused 1 0\n")
+    ∷ holding (benchText (replicate 10000 9)) (ascii "refused 2 0\n")
+    ∷ holding (benchText (fileA ++ replicate 9000 9)) (ascii "refused 9 56\n")
+    ∷ holding (spaced 18446744073709551615 ++ signedText (negsuc 9223372036854775807) ++ spaced 0 ++ signedText (pos 10)) (ascii " 18446744073709551615 -9223372036854775808 0 10")
+    ∷ holding (listedAfter [] (replicate 14 46)) (ascii "refused 1 0\n..")
+    ∷ holding (listedAfter [] (replicate 11 46)) (replicate 11 46)
+    ∷ holding (listedAnswer [] 12 .length ∷ listedAnswer [] 11 .length ∷ []) (12 ∷ 0 ∷ [])
+    ∷ refuses (listedAnswer [] 12 .verdict) 0 0
+    ∷ refuses (listedAnswer [] 11 .verdict) 10 0
+    ∷ []
+
+unfoldable pub table : List Row
+table = sizeRows ++ designRows ++ callRows ++ heldRows ++ numberRows ++ fileRows ++ listingRows
+
+pub boundaries : every table ≡ true
+unfolding table listingRows sized occ plus left right company opposition balanced beta total members restrained numeratorOf denominatorOf along difference deviationOf squaredReadings squaredTotals qOf root spreadHundredths spreadHundredthsOf published offender farReading word wordAt tableOf designVerdict developVerdict initialVerdict judgeVerdict slices contents jobVerdict totalVerdict valuesVerdict valueVerdict readingsVerdict deviationsVerdict deviationVerdict squaredReadingsVerdict squaredTotalsVerdict rooms analyseVerdict big numbersAt fieldVerdict fieldAt fields readVerdict solveVerdict ascii digits each textOf benchText over sum sumℕ firstFrom round
+boundaries = refl
+
+-- ---- how near an f64 is, and any set of values
+
+-- the f64 of 1/3 is away from it by its size over 2 to the 54th, and no nearer
+pub near-third : Near 54 (float (pos 1) 3) (pos 1) 3
+unfolding round
+near-third = (refl, le-refl 18014398509481984)
+
+pub no-nearer : Near 55 (float (pos 1) 3) (pos 1) 3 → ⊥
+unfolding round
+no-nearer near = absurd (omega (arith, near .1))
+
+-- example A: the sum of squared deviations of its exact values is Q over v·beta, 25/5
+pub squares-of-A : squaresUnder (headOf fileA) (blocksOf fileA) (readingsOf fileA) (exactValues (headOf fileA) (blocksOf fileA) (readingsOf fileA) 3 (pos 7)) =ᶠ record { top = pos 25; bottom = 5 }
+unfolding sum sumℕ occ plus left right company opposition beta total members restrained numeratorOf denominatorOf big numbersAt summed valuesAlong deviationUnder squaresUnder
+squares-of-A = refl

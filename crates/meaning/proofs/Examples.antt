@@ -13,7 +13,7 @@ use Rattle.meaning.specs.Refusals.{offender, farReading}
 use Rattle.meaning.specs.Calls.{designVerdict, judgeVerdict, slices, contents}
 use Rattle.meaning.specs.File.{big, numbersAt, fieldVerdict, fields, readVerdict}
 use Rattle.meaning.specs.Text.{ascii, digits, each, textOf}
-use Rattle.meaning.proofs.Rows.{Row, job, balances, refuses, differences, totals, publishes, head, every}
+use Rattle.meaning.proofs.Rows.{Row, job, balances, refuses, within, across, lists, totals, publishes, head, every}
 
 -- the 56 bytes of example A, field by field
 abbrev pub fileA : List ℕ
@@ -22,6 +22,14 @@ fileA =
     ∷ 2 ∷ 0 ∷ 4 ∷ 1 ∷ 4 ∷ 2 ∷ 3
     ∷ 3 ∷ 0 ∷ 16 ∷ 0 ∷ 0 ∷ 0 ∷ 0 ∷ 0 ∷ 0 ∷ 0 ∷ 3 ∷ 0 ∷ 0 ∷ 0 ∷ 0 ∷ 0 ∷ 0 ∷ 0 ∷ 7
     ∷ 4 ∷ 0 ∷ 20 ∷ 0 ∷ 0 ∷ 0 ∷ 11 ∷ 255 ∷ 255 ∷ 255 ∷ 253 ∷ 0 ∷ 0 ∷ 0 ∷ 4 ∷ 0 ∷ 0 ∷ 0 ∷ 1 ∷ 255 ∷ 255 ∷ 255 ∷ 248 ∷ []
+
+-- example E as a job: restraint 0 and ∞, M -3, and seven readings
+abbrev pub fileE : List ℕ
+fileE =
+    1 ∷ 0 ∷ 4 ∷ 7 ∷ 1 ∷ 4 ∷ 1
+    ∷ 2 ∷ 0 ∷ 8 ∷ 255 ∷ 1 ∷ 2 ∷ 4 ∷ 0 ∷ 3 ∷ 5 ∷ 6
+    ∷ 3 ∷ 0 ∷ 16 ∷ 0 ∷ 0 ∷ 0 ∷ 0 ∷ 0 ∷ 0 ∷ 0 ∷ 129 ∷ 255 ∷ 255 ∷ 255 ∷ 255 ∷ 255 ∷ 255 ∷ 255 ∷ 253
+    ∷ 4 ∷ 0 ∷ 28 ∷ 0 ∷ 0 ∷ 0 ∷ 5 ∷ 255 ∷ 255 ∷ 255 ∷ 254 ∷ 0 ∷ 0 ∷ 0 ∷ 0 ∷ 0 ∷ 0 ∷ 0 ∷ 7 ∷ 0 ∷ 0 ∷ 0 ∷ 1 ∷ 255 ∷ 255 ∷ 255 ∷ 252 ∷ 0 ∷ 0 ∷ 0 ∷ 9 ∷ []
 
 -- the two initial blocks of example G
 abbrev blocksG : List ℕ
@@ -37,19 +45,23 @@ table =
     ∷ balances (head 3 0 1 1) (0 ∷ 1 ∷ []) (record { v = 3; b = 3; r = 2; p = 1; l1 = 0; l2 = 1 }) 1
     -- C
     ∷ refuses (judgeVerdict (head 4 0 1 1) (0 ∷ 1 ∷ [])) 6 0
+    ∷ across (head 4 0 1 1) (0 ∷ 1 ∷ []) 2 0
     -- D
     ∷ balances (head 4 0 1 3) (0 ∷ 1 ∷ 0 ∷ 1 ∷ 0 ∷ 2 ∷ []) (record { v = 4; b = 12; r = 6; p = 1; l1 = 0; l2 = 2 }) 9
+    ∷ across (head 4 0 1 3) (0 ∷ 1 ∷ 0 ∷ 1 ∷ 0 ∷ 2 ∷ []) 2 2
     -- E
     ∷ balances (head 7 1 4 1) (255 ∷ 1 ∷ 2 ∷ 4 ∷ 0 ∷ 3 ∷ 5 ∷ 6 ∷ []) (record { v = 8; b = 7; r = 7; p = 4; l1 = 3; l2 = 4 }) 0
+    ∷ lists fileE
+    (ascii "design 8 7 7 4 3 4\nvalue 0 -32 16 -200\nvalue 1 -20 16 -125\nvalue 2 -84 16 -525\nvalue 3 -52 16 -325\nvalue 4 -32 16 -200\nvalue 5 -56 16 -350\nvalue 6 -92 16 -575\nvalue 7 -16 16 -100\ndev 0 0 8\ndev 1 0 8\ndev 2 0 8\ndev 3 0 8\ndev 4 0 8\ndev 5 0 8\ndev 6 0 8\nspread 0 8 0 none\n")
     -- F
     ∷ balances (head 13 0 2 3) (1 ∷ 12 ∷ 8 ∷ 5 ∷ 4 ∷ 9 ∷ 6 ∷ 7 ∷ 3 ∷ 10 ∷ 11 ∷ 2 ∷ []) (record { v = 13; b = 39; r = 12; p = 2; l1 = 1; l2 = 2 }) 27
     -- G
     ∷ refuses (judgeVerdict (head 11 1 3 2) blocksG) 6 0
-    ∷ differences (head 11 1 3 2) blocksG 4 3
-    ∷ differences (head 11 1 3 2) blocksG 2 1
+    ∷ within (head 11 1 3 2) blocksG 4 3
+    ∷ within (head 11 1 3 2) blocksG 2 1
     -- H
-    ∷ totals 7 14 3 (negsuc 13) (pos 6649 ∷ pos 16533 ∷ negsuc 12136 ∷ pos 4926 ∷ pos 5058 ∷ negsuc 16704 ∷ negsuc 4323 ∷ [])
-    (negsuc 10079 ∷ pos 9688 ∷ negsuc 47651 ∷ negsuc 13525 ∷ negsuc 13261 ∷ negsuc 56787 ∷ negsuc 32025 ∷ []) (pos 62545461) (pos 63177554) 15 54849
+    ∷ totals (head 7 0 2 3) 2 3 (negsuc 13) (pos 6649 ∷ pos 16533 ∷ negsuc 12136 ∷ pos 4926 ∷ pos 5058 ∷ negsuc 16704 ∷ negsuc 4323 ∷ [])
+    (negsuc 10079 ∷ pos 9688 ∷ negsuc 47651 ∷ negsuc 13525 ∷ negsuc 13261 ∷ negsuc 56787 ∷ negsuc 32025 ∷ []) 28 (pos 62545461) 63177554 15 54849
     -- I
     ∷ publishes (pos 1) 8 (pos 12)
     ∷ publishes (pos 3) 8 (pos 38)

@@ -17,7 +17,7 @@ sq x = x *ℤ x
 abbrev pub reading : List ℤ → ℕ → ℤ
 reading y k = getD y k (pos 0)
 
--- 1 where object i is on the left of block k, -1 where it is on the right, 0 elsewhere
+-- of a clean block k: 1 where object i is on the left, -1 where it is on the right, 0 where it is not in the block
 abbrev pub sign : Head → List ℕ → ℕ → ℕ → ℤ
 sign h d k i = pos (occ i (left h d k)) -ℤ pos (occ i (right h d k))
 
@@ -25,7 +25,7 @@ sign h d k i = pos (occ i (left h d k)) -ℤ pos (occ i (right h d k))
 unfoldable pub total : Head → List ℕ → List ℤ → ℕ → ℤ
 total h d y i = sum (blocks h) (λ k. sign h d k i *ℤ reading y k)
 
--- 1 where object i is in the restraint set w, which has a bit an object
+-- 1 where object i is in the restraint set w, else 0; bit i of w is object i
 abbrev pub member : ℕ → ℕ → ℕ
 member w i = w / 2 ^ i % 2
 
@@ -38,20 +38,24 @@ unfoldable pub restrained : ℕ → ℕ → (ℕ → ℤ) → ℤ
 restrained v w f = sum v (λ i. pos (member w i) *ℤ f i)
 
 -- v·beta
-abbrev pub scale : Head → List ℕ → ℕ
-scale h d = objects h * beta h d
+abbrev pub vbeta : Head → List ℕ → ℕ
+vbeta h d = objects h * beta h d
 
 -- a value's numerator, from t, T(i), S, v·beta and M
 abbrev pub numerator : ℕ → ℤ → ℤ → ℕ → ℤ → ℤ
 numerator t T S vb M = pos t *ℤ T -ℤ S +ℤ pos vb *ℤ M
 
+-- a value's denominator, from t and v·beta; it is not reduced
+abbrev pub denominator : ℕ → ℕ → ℕ
+denominator t vb = t * vb
+
 -- the numerator of object i in a job
 unfoldable pub numeratorOf : Head → List ℕ → List ℤ → ℕ → ℤ → ℕ → ℤ
-numeratorOf h d y w M i = numerator (members (objects h) w) (total h d y i) (restrained (objects h) w (total h d y)) (scale h d) M
+numeratorOf h d y w M i = numerator (members (objects h) w) (total h d y i) (restrained (objects h) w (total h d y)) (vbeta h d) M
 
--- the denominator of every value of a job, t·v·beta
+-- the denominator of every value of a job
 unfoldable pub denominatorOf : Head → List ℕ → ℕ → ℕ
-denominatorOf h d w = members (objects h) w * scale h d
+denominatorOf h d w = denominator (members (objects h) w) (vbeta h d)
 
 -- the sum of f over a list of objects
 unfoldable pub along : (ℕ → ℤ) → List ℕ → ℤ
@@ -64,7 +68,7 @@ difference h d f k = along f (left h d k) -ℤ along f (right h d k)
 
 -- the deviation of block k of the exact values: its numerator, over v·beta
 unfoldable pub deviationOf : Head → List ℕ → List ℤ → ℕ → ℤ
-deviationOf h d y k = pos (scale h d) *ℤ reading y k -ℤ difference h d (total h d y) k
+deviationOf h d y k = pos (vbeta h d) *ℤ reading y k -ℤ difference h d (total h d y) k
 
 -- the sum of the squared readings
 unfoldable pub squaredReadings : Head → List ℤ → ℤ
@@ -78,9 +82,9 @@ squaredTotals h d y = sum (objects h) (λ i. sq (total h d y i))
 abbrev pub q : ℕ → ℤ → ℤ → ℤ
 q vb yy tt = pos vb *ℤ yy -ℤ tt
 
--- Q of a job; it is never negative, so its size is all of it
+-- Q of an accepted job, which is never negative
 unfoldable pub qOf : Head → List ℕ → List ℤ → ℕ
-qOf h d y = natAbs (q (scale h d) (squaredReadings h y) (squaredTotals h d y))
+qOf h d y = natAbs (q (vbeta h d) (squaredReadings h y) (squaredTotals h d y))
 
 -- f, the degrees of freedom; b is never below v - 1
 abbrev pub freedom : Head → ℕ
@@ -93,9 +97,9 @@ root (suc s) x = let r = 2 * root s (x / 4) in cond (leb ((r + 1) * (r + 1)) x) 
 
 -- k, from Q, v·beta and f: the largest whole number with k·k·v·beta·f at most 10,000·Q; 0 where f is 0
 unfoldable pub spreadHundredths : ℕ → ℕ → ℕ → ℕ
-spreadHundredths q vb zero = 0
-spreadHundredths q vb (suc f) = root 64 (10000 * q / (vb * suc f))
+spreadHundredths Q vb zero = 0
+spreadHundredths Q vb (suc f) = root 64 (10000 * Q / (vb * suc f))
 
 -- k of a job
 unfoldable pub spreadHundredthsOf : Head → List ℕ → List ℤ → ℕ
-spreadHundredthsOf h d y = spreadHundredths (qOf h d y) (scale h d) (freedom h)
+spreadHundredthsOf h d y = spreadHundredths (qOf h d y) (vbeta h d) (freedom h)

@@ -18,10 +18,10 @@ use Rattle.meaning.specs.declared.BlockDeviation.{BlockDeviation}
 use Rattle.meaning.specs.declared.SquareSum.{SquareSum}
 use Rattle.meaning.specs.declared.JobSpread.{JobSpread}
 use Rattle.meaning.specs.declared.Solved.{Solved}
-use Rattle.meaning.specs.Design.{objects, blocks, listed, left, right, company, opposition, parametersOf}
-use Rattle.meaning.specs.Analysis.{total, numeratorOf, denominatorOf, deviationOf, scale, squaredReadings, squaredTotals, qOf, freedom, spreadHundredthsOf}
+use Rattle.meaning.specs.Design.{objects, blocks, listLength, left, right, company, opposition, parametersOf}
+use Rattle.meaning.specs.Analysis.{total, numeratorOf, denominatorOf, deviationOf, vbeta, squaredReadings, squaredTotals, qOf, freedom, spreadHundredthsOf}
 use Rattle.meaning.specs.Publishing.{valueOf, noValue, noSpread, spreadOf}
-use Rattle.meaning.specs.Refusals.{_⨾_, sizes, long, clean, exists, even, restraint, near, room}
+use Rattle.meaning.specs.Refusals.{_⨾_, sizes, lengthIs, clean, exists, inBalance, restraint, inReach, room}
 
 -- what an accepting call gives, and what a refusing one does
 abbrev pub given : {A : Type 0} → Verdict → A → A → A
@@ -43,9 +43,9 @@ word (x ∷ xs) = 2 ^ x + word xs
 unfoldable pub wordAt : Head → List ℕ → ℕ → ℕ
 wordAt h d c = cond (eqb (c % 2) 0) (word (left h d (c / 2))) (word (right h d (c / 2)))
 
--- the tests of a block list; the pair table has no other
+-- the tests of a block list; the second call, on why a pair table holds zeros, answers this
 unfoldable pub designVerdict : Head → List ℕ → Verdict
-designVerdict h d = sizes h ⨾ long (length d) (listed h) ⨾ clean h d
+designVerdict h d = sizes h ⨾ lengthIs (length d) (listLength h) ⨾ clean h d
 
 -- the development: its verdict, from the length of the lent words, and the words after, under it
 unfoldable pub developVerdict : Head → List ℕ → ℕ → Verdict
@@ -62,23 +62,26 @@ abbrev pub initialWords : Head → List ℕ → ℕ → List ℕ → List ℕ
 initialWords h d j words = given (initialVerdict h d j (length words))
     (take (2 * h .n * j) words ++ over (2 * h .n) (λ c. wordAt h d (2 * h .n * j + c)) (drop (2 * h .n * j) words)) words
 
--- a 50 by 50 table of f over the objects, zeros elsewhere
+-- a 50 by 50 table of zeros, and one of f over v objects with zeros elsewhere
+abbrev pub noTable : List (List ℕ)
+noTable = replicate 50 (replicate 50 0)
+
 unfoldable pub tableOf : ℕ → (ℕ → ℕ → ℕ) → List (List ℕ)
-tableOf v f = over v (λ i. over v (f i) (replicate 50 0)) (replicate 50 (replicate 50 0))
+tableOf v f = over v (λ i. over v (f i) (replicate 50 0)) noTable
 
 -- the two pair tables
 abbrev pub companyTable : Head → List ℕ → List (List ℕ)
-companyTable h d = given (designVerdict h d) (tableOf (objects h) (company h d)) (tableOf 0 (company h d))
+companyTable h d = given (designVerdict h d) (tableOf (objects h) (company h d)) noTable
 
 abbrev pub oppositionTable : Head → List ℕ → List (List ℕ)
-oppositionTable h d = given (designVerdict h d) (tableOf (objects h) (opposition h d)) (tableOf 0 (opposition h d))
+oppositionTable h d = given (designVerdict h d) (tableOf (objects h) (opposition h d)) noTable
 
 -- the judgement
 abbrev pub noParameters : Parameters
 noParameters = record { v = 0; b = 0; r = 0; p = 0; l1 = 0; l2 = 0 }
 
 unfoldable pub judgeVerdict : Head → List ℕ → Verdict
-judgeVerdict h d = designVerdict h d ⨾ even h d
+judgeVerdict h d = designVerdict h d ⨾ inBalance h d
 
 abbrev pub judged : Head → List ℕ → Judged
 judged h d = record { verdict = judgeVerdict h d; parameters = given (judgeVerdict h d) (parametersOf h d) noParameters }
@@ -87,11 +90,11 @@ judged h d = record { verdict = judgeVerdict h d; parameters = given (judgeVerdi
 
 -- the sizes, and the two slices of a job have their lengths
 unfoldable pub slices : Head → List ℕ → List ℤ → Verdict
-slices h d y = sizes h ⨾ long (length d) (listed h) ⨾ long (length y) (blocks h)
+slices h d y = sizes h ⨾ lengthIs (length d) (listLength h) ⨾ lengthIs (length y) (blocks h)
 
 -- what a whole job holds
 unfoldable pub contents : Head → List ℕ → List ℤ → ℕ → ℤ → Verdict
-contents h d y w M = clean h d ⨾ even h d ⨾ restraint h w M ⨾ near y
+contents h d y w M = clean h d ⨾ inBalance h d ⨾ restraint h w M ⨾ inReach y
 
 -- the tests of a whole job with no room
 unfoldable pub jobVerdict : Head → List ℕ → List ℤ → ℕ → ℤ → Verdict
@@ -99,7 +102,7 @@ jobVerdict h d y w M = slices h d y ⨾ contents h d y w M
 
 -- the total of one object
 unfoldable pub totalVerdict : Head → List ℕ → List ℤ → ℕ → Verdict
-totalVerdict h d y i = slices h d y ⨾ clean h d ⨾ exists i (objects h) ⨾ near y
+totalVerdict h d y i = slices h d y ⨾ clean h d ⨾ exists i (objects h) ⨾ inReach y
 
 abbrev pub totalAnswer : Head → List ℕ → List ℤ → ℕ → ObjectTotal
 totalAnswer h d y i = record { verdict = totalVerdict h d y i; total = given (totalVerdict h d y i) (total h d y i) (pos 0) }
@@ -113,14 +116,14 @@ valuesUnder verdict h d y w M values = written verdict (objects h) (numeratorOf 
 
 -- the value of one object
 unfoldable pub valueVerdict : Head → List ℕ → List ℤ → ℕ → ℤ → ℕ → Verdict
-valueVerdict h d y w M i = slices h d y ⨾ clean h d ⨾ exists i (objects h) ⨾ even h d ⨾ restraint h w M ⨾ near y
+valueVerdict h d y w M i = slices h d y ⨾ clean h d ⨾ exists i (objects h) ⨾ inBalance h d ⨾ restraint h w M ⨾ inReach y
 
 abbrev pub valueAnswer : Head → List ℕ → List ℤ → ℕ → ℤ → ℕ → ObjectValue
 valueAnswer h d y w M i = record { verdict = valueVerdict h d y w M i; value = given (valueVerdict h d y w M i) (valueOf h d y w M i) noValue }
 
 -- the tests of deviations, Q and spread, which take no restraint
 unfoldable pub readingsVerdict : Head → List ℕ → List ℤ → Verdict
-readingsVerdict h d y = slices h d y ⨾ clean h d ⨾ even h d ⨾ near y
+readingsVerdict h d y = slices h d y ⨾ clean h d ⨾ inBalance h d ⨾ inReach y
 
 -- the deviation numerators of all blocks: the verdict, from the length of the lent room, and the room after, under it
 unfoldable pub deviationsVerdict : Head → List ℕ → List ℤ → ℕ → Verdict
@@ -131,11 +134,11 @@ deviationsUnder verdict h d y deviations = written verdict (blocks h) (deviation
 
 -- the deviation of one block
 unfoldable pub deviationVerdict : Head → List ℕ → List ℤ → ℕ → Verdict
-deviationVerdict h d y k = slices h d y ⨾ clean h d ⨾ exists k (blocks h) ⨾ even h d ⨾ near y
+deviationVerdict h d y k = slices h d y ⨾ clean h d ⨾ exists k (blocks h) ⨾ inBalance h d ⨾ inReach y
 
 abbrev pub deviationAnswer : Head → List ℕ → List ℤ → ℕ → BlockDeviation
 deviationAnswer h d y k = let verdict = deviationVerdict h d y k in
-    record { verdict = verdict; numerator = given verdict (deviationOf h d y k) (pos 0); denominator = given verdict (scale h d) 0 }
+    record { verdict = verdict; numerator = given verdict (deviationOf h d y k) (pos 0); denominator = given verdict (vbeta h d) 0 }
 
 -- a sum of squares under its verdict
 abbrev pub squareSum : Verdict → ℕ → SquareSum
@@ -143,13 +146,13 @@ squareSum verdict x = record { verdict = verdict; sum = given verdict x 0 }
 
 -- the sums of the squared readings and of the squared totals, and Q
 unfoldable pub squaredReadingsVerdict : Head → List ℤ → Verdict
-squaredReadingsVerdict h y = sizes h ⨾ long (length y) (blocks h) ⨾ near y
+squaredReadingsVerdict h y = sizes h ⨾ lengthIs (length y) (blocks h) ⨾ inReach y
 
 abbrev pub squaredReadingsAnswer : Head → List ℤ → SquareSum
 squaredReadingsAnswer h y = squareSum (squaredReadingsVerdict h y) (natAbs (squaredReadings h y))
 
 unfoldable pub squaredTotalsVerdict : Head → List ℕ → List ℤ → Verdict
-squaredTotalsVerdict h d y = slices h d y ⨾ clean h d ⨾ near y
+squaredTotalsVerdict h d y = slices h d y ⨾ clean h d ⨾ inReach y
 
 abbrev pub squaredTotalsAnswer : Head → List ℕ → List ℤ → SquareSum
 squaredTotalsAnswer h d y = squareSum (squaredTotalsVerdict h d y) (natAbs (squaredTotals h d y))
@@ -160,10 +163,10 @@ qAnswer h d y = squareSum (readingsVerdict h d y) (qOf h d y)
 -- the spread, with all that it is made from
 abbrev pub spreadingOf : Head → List ℕ → List ℤ → Spreading
 spreadingOf h d y = let k = spreadHundredthsOf h d y in
-    record { q = qOf h d y; scale = scale h d; freedom = freedom h; hundredths = k; spread = spreadOf k (freedom h) }
+    record { q = qOf h d y; vbeta = vbeta h d; freedom = freedom h; hundredths = k; spread = spreadOf k (freedom h) }
 
 abbrev pub noSpreading : Spreading
-noSpreading = record { q = 0; scale = 0; freedom = 0; hundredths = 0; spread = noSpread }
+noSpreading = record { q = 0; vbeta = 0; freedom = 0; hundredths = 0; spread = noSpread }
 
 abbrev pub spreadAnswer : Head → List ℕ → List ℤ → JobSpread
 spreadAnswer h d y = record { verdict = readingsVerdict h d y; spreading = given (readingsVerdict h d y) (spreadingOf h d y) noSpreading }
@@ -177,9 +180,5 @@ analyseVerdict h d y w M words values deviations = jobVerdict h d y w M ⨾ room
 
 -- the record of a job worked out, under its verdict
 abbrev pub solvedUnder : Verdict → Head → List ℕ → List ℤ → ℕ → Solved
-solvedUnder verdict h d y w = record {
-  verdict = verdict;
-  parameters = given verdict (parametersOf h d) noParameters;
-  denominator = given verdict (denominatorOf h d w) 0;
-  spreading = given verdict (spreadingOf h d y) noSpreading;
-}
+solvedUnder verdict h d y w =
+    record { verdict = verdict; parameters = given verdict (parametersOf h d) noParameters; denominator = given verdict (denominatorOf h d w) 0; spreading = given verdict (spreadingOf h d y) noSpreading }

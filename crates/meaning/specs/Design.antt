@@ -26,9 +26,9 @@ unfoldable pub sized : Head → Bool
 sized h = leb 3 (h .n) && leb (h .n) 50 && leb (h .flag) 1 && leb (objects h) 50 && leb 1 (h .p) && leb (2 * h .p) (objects h)
     && leb 1 (h .m) && leb (h .m) 64 && leb (blocks h) 1300
 
--- how many bytes a block list has
-abbrev pub listed : Head → ℕ
-listed h = 2 * h .p * h .m
+-- how many bytes the list of the initial blocks has
+abbrev pub listLength : Head → ℕ
+listLength h = 2 * h .p * h .m
 
 -- how often x stands in a list
 unfoldable pub occ : ℕ → List ℕ → ℕ
@@ -51,7 +51,7 @@ left h d k = map (moved h (k % h .n)) (take (h .p) (drop (2 * h .p * (k / h .n))
 unfoldable pub right : Head → List ℕ → ℕ → List ℕ
 right h d k = map (moved h (k % h .n)) (take (h .p) (drop (2 * h .p * (k / h .n) + h .p) d))
 
--- in how many blocks i and j share a side; with i twice, in how many blocks i stands
+-- in how many blocks i and j share a side; with i twice, in how many blocks i stands (no object stands twice in a clean block)
 unfoldable pub company : Head → List ℕ → ℕ → ℕ → ℕ
 company h d i j = sumℕ (blocks h) (λ k. occ i (left h d k) * occ j (left h d k) + occ i (right h d k) * occ j (right h d k))
 

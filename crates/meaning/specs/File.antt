@@ -11,7 +11,7 @@ use Rattle.meaning.specs.declared.Field.the-variants.{Body, Unfit}
 use Rattle.meaning.specs.declared.Verdict.{Verdict}
 use Rattle.meaning.specs.declared.Verdict.the-variants.{Accepted, Refused}
 use Rattle.meaning.specs.declared.JobRead.{JobRead}
-use Rattle.meaning.specs.Design.{blocks, listed}
+use Rattle.meaning.specs.Design.{blocks, listLength}
 use Rattle.meaning.specs.Refusals.{accepted, refused, test, _⨾_, sizes}
 use Rattle.meaning.specs.Calls.{given, contents, rooms}
 
@@ -52,6 +52,11 @@ abbrev pub fieldSays : Field → Verdict
 fieldSays (Body start next) = accepted
 fieldSays (Unfit k place) = refused k place
 
+-- where the body of a field starts, 0 where there is none
+abbrev pub fieldStart : Field → ℕ
+fieldStart (Body start next) = start
+fieldStart (Unfit k place) = 0
+
 -- where a reader at `at` stands after a field: past it, or, on a refusal, at its start
 abbrev pub fieldNext : Field → ℕ → ℕ
 fieldNext (Body start next) at = next
@@ -63,30 +68,37 @@ abbrev pub headOf : List ℕ → Head
 headOf s = record { n = getD s 3 0; flag = getD s 4 0; p = getD s 5 0; m = getD s 6 0 }
 
 -- where the second, third and fourth field start, and the byte after the fourth
-abbrev pub second : ℕ
-second = 7
+abbrev pub secondAt : ℕ
+secondAt = 7
 
-abbrev pub third : List ℕ → ℕ
-third s = second + 3 + listed (headOf s)
+abbrev pub thirdAt : List ℕ → ℕ
+thirdAt s = secondAt + 3 + listLength (headOf s)
 
-abbrev pub fourth : List ℕ → ℕ
-fourth s = third s + 3 + 16
+abbrev pub fourthAt : List ℕ → ℕ
+fourthAt s = thirdAt s + 3 + 16
 
-abbrev pub end : List ℕ → ℕ
-end s = fourth s + 3 + 4 * blocks (headOf s)
+abbrev pub endAt : List ℕ → ℕ
+endAt s = fourthAt s + 3 + 4 * blocks (headOf s)
+
+-- where the initial blocks and the readings start
+abbrev pub blocksAt : ℕ
+blocksAt = secondAt + 3
+
+abbrev pub readingsAt : List ℕ → ℕ
+readingsAt s = fourthAt s + 3
 
 -- the initial blocks, the restraint set, its accepted sum M, and the readings
 abbrev pub blocksOf : List ℕ → List ℕ
-blocksOf s = take (listed (headOf s)) (drop (second + 3) s)
+blocksOf s = take (listLength (headOf s)) (drop blocksAt s)
 
 abbrev pub setOf : List ℕ → ℕ
-setOf s = big s (third s + 3) 8
+setOf s = big s (thirdAt s + 3) 8
 
 abbrev pub sumOf : List ℕ → ℤ
-sumOf s = twos 64 (big s (third s + 11) 8)
+sumOf s = twos 64 (big s (thirdAt s + 11) 8)
 
 abbrev pub readingsOf : List ℕ → List ℤ
-readingsOf s = numbersAt s (fourth s + 3) (blocks (headOf s))
+readingsOf s = numbersAt s (readingsAt s) (blocks (headOf s))
 
 -- ---- the verdict of a file
 
@@ -94,15 +106,15 @@ readingsOf s = numbersAt s (fourth s + 3) (blocks (headOf s))
 unfoldable pub fields : List ℕ → Verdict
 fields s =
     fieldVerdict s 0 1 4 ⨾ sizes (headOf s)
-    ⨾ fieldVerdict s second 2 (listed (headOf s))
-    ⨾ fieldVerdict s (third s) 3 16
-    ⨾ fieldVerdict s (fourth s) 4 (4 * blocks (headOf s))
-    ⨾ test (eqb (end s) (length s)) 9 (end s)
+    ⨾ fieldVerdict s secondAt 2 (listLength (headOf s))
+    ⨾ fieldVerdict s (thirdAt s) 3 16
+    ⨾ fieldVerdict s (fourthAt s) 4 (4 * blocks (headOf s))
+    ⨾ test (eqb (endAt s) (length s)) 9 (endAt s)
 
 -- a direct call's refusal of what a file holds, moved to its place in the file: 5 to that byte, 7 to the field's start, 8 to the reading's first byte
 abbrev pub placed : List ℕ → Verdict → Verdict
 placed s Accepted = accepted
-placed s (Refused k i) = refused k (cond (eqb k 5) (second + 3 + i) (cond (eqb k 7) (third s) (cond (eqb k 8) (fourth s + 3 + 4 * i) i)))
+placed s (Refused k i) = refused k (cond (eqb k 5) (blocksAt + i) (cond (eqb k 7) (thirdAt s) (cond (eqb k 8) (readingsAt s + 4 * i) i)))
 
 -- the verdict of reading: the fields, then what they hold, looked at as a direct call does
 unfoldable pub readVerdict : List ℕ → Verdict
@@ -120,11 +132,4 @@ noHead = record { n = 0; flag = 0; p = 0; m = 0 }
 
 abbrev pub readAnswer : List ℕ → JobRead
 readAnswer s = let verdict = readVerdict s in
-    record {
-      verdict = verdict;
-      head = given verdict (headOf s) noHead;
-      blocks = given verdict (second + 3) 0;
-      readings = given verdict (fourth s + 3) 0;
-      set = given verdict (setOf s) 0;
-      sum = given verdict (sumOf s) (pos 0);
-    }
+    record { verdict = verdict; head = given verdict (headOf s) noHead; «blocks_at» = given verdict blocksAt 0; «readings_at» = given verdict (readingsAt s) 0; set = given verdict (setOf s) 0; sum = given verdict (sumOf s) (pos 0) }

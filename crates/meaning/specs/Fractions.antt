@@ -59,9 +59,9 @@ squaresUnder h d y u = summed (blocks h) (λ k. squared (deviationUnder h d y u 
 abbrev pub KeepsRestraint : ℕ → ℕ → ℤ → (ℕ → Fraction) → Type 0
 KeepsRestraint v w M u = summed v (λ i. record { top = pos (member w i) *ℤ u i .top; bottom = u i .bottom }) =ᶠ whole M
 
--- every one of the v values has a denominator above 0
-abbrev pub Values : ℕ → (ℕ → Fraction) → Type 0
-Values v u = (i : ℕ) → i < v → 0 < u i .bottom
+-- a set of v values: every denominator is above 0
+abbrev pub Proper : ℕ → (ℕ → Fraction) → Type 0
+Proper v u = (i : ℕ) → i < v → 0 < u i .bottom
 
 -- the exact values of a job
 abbrev pub exactValues : Head → List ℕ → List ℤ → ℕ → ℤ → ℕ → Fraction

@@ -46,11 +46,11 @@ floatZero = fin false 0 (pos 0)
 abbrev pub gap : ℕ → ℕ → ℕ
 gap a b = a - b + (b - a)
 
--- x has the sign of a / d and is at most the size of a / d divided by 2 to the power p away from it, over whole numbers; x is finite, of size (m * up e) / down e
+-- x has the sign of a / d and is away from it by at most the size of a / d divided by 2 to the power bits, over whole numbers; the size of x is (m * up e) / down e
 abbrev pub Near : ℕ → Float → ℤ → ℕ → Type 0
-Near p nan a d = ⊥
-Near p (inf s) a d = ⊥
-Near p (fin s m e) a d = (s ≡ minus a) × (gap (m * up e * d) (natAbs a * down e) * 2 ^ p ≤ natAbs a * down e)
+Near bits nan a d = ⊥
+Near bits (inf s) a d = ⊥
+Near bits (fin s m e) a d = (s ≡ minus a) × (gap (m * up e * d) (natAbs a * down e) * 2 ^ bits ≤ natAbs a * down e)
 
 -- the result of object i in a job, and that of a refusal
 abbrev pub valueOf : Head → List ℕ → List ℤ → ℕ → ℤ → ℕ → Value
@@ -74,7 +74,7 @@ abbrev pub spreadValue : Spread → Float
 spreadValue (Of x f) = x
 spreadValue None = floatZero
 
--- the degrees of freedom of a spread; 0 for none, and for none alone
+-- the degrees of freedom of a spread; 0 for none
 abbrev pub spreadFreedom : Spread → ℕ
 spreadFreedom (Of x f) = f
 spreadFreedom None = 0

@@ -9,7 +9,7 @@ use Rattle.algebra.specs.Ranges.{firstFrom}
 use Rattle.meaning.specs.declared.Head.{Head}
 use Rattle.meaning.specs.declared.Verdict.{Verdict}
 use Rattle.meaning.specs.declared.Verdict.the-variants.{Accepted, Refused}
-use Rattle.meaning.specs.Design.{objects, withFixed, blocks, sized, listed, occ, balanced}
+use Rattle.meaning.specs.Design.{objects, withFixed, blocks, sized, listLength, occ, balanced}
 use Rattle.meaning.specs.Analysis.{reading}
 
 -- the two verdicts by name
@@ -40,6 +40,13 @@ abbrev pub _⨾_ : Verdict → Verdict → Verdict
 Accepted ⨾ after = after
 Refused k at ⨾ after = refused k at
 
+-- the largest reading, and the largest accepted sum
+abbrev pub readingLimit : ℕ
+readingLimit = 200000
+
+abbrev pub sumLimit : ℕ
+sumLimit = 1000000000
+
 -- the byte x names an object of the design: a residue, or ∞ where it takes part
 abbrev pub inRange : Head → ℕ → Bool
 inRange h x = cond (eqb x 255) (withFixed h) (ltb x (h .n))
@@ -54,15 +61,15 @@ offender h d = firstFrom (offends h d) 0 (length d)
 
 -- the first reading out of range, or how many there are where none is
 unfoldable pub farReading : List ℤ → ℕ
-farReading y = firstFrom (λ k. ltb 200000 (natAbs (reading y k))) 0 (length y)
+farReading y = firstFrom (λ k. ltb readingLimit (natAbs (reading y k))) 0 (length y)
 
 -- 4: the sizes
 abbrev pub sizes : Head → Verdict
 sizes h = test (sized h) 4 0
 
 -- 3: a slice has the length that is wanted
-abbrev pub long : ℕ → ℕ → Verdict
-long len want = test (eqb len want) 3 0
+abbrev pub lengthIs : ℕ → ℕ → Verdict
+lengthIs len want = test (eqb len want) 3 0
 
 -- 5: no byte of the block list offends
 abbrev pub clean : Head → List ℕ → Verdict
@@ -73,16 +80,16 @@ abbrev pub exists : ℕ → ℕ → Verdict
 exists i count = test (ltb i count) 5 i
 
 -- 6: the developed design is balanced
-abbrev pub even : Head → List ℕ → Verdict
-even h d = test (balanced h d) 6 0
+abbrev pub inBalance : Head → List ℕ → Verdict
+inBalance h d = test (balanced h d) 6 0
 
 -- 7: the restraint set is not empty and has no bit at v or above, and M is in its range
 abbrev pub restraint : Head → ℕ → ℤ → Verdict
-restraint h w M = test (ltb 0 w && ltb w (2 ^ objects h) && leb (natAbs M) 1000000000) 7 0
+restraint h w M = test (ltb 0 w && ltb w (2 ^ objects h) && leb (natAbs M) sumLimit) 7 0
 
 -- 8: no reading is out of range
-abbrev pub near : List ℤ → Verdict
-near y = test (eqb (farReading y) (length y)) 8 (farReading y)
+abbrev pub inReach : List ℤ → Verdict
+inReach y = test (eqb (farReading y) (length y)) 8 (farReading y)
 
 -- 10: a lent buffer has the room that is wanted
 abbrev pub room : ℕ → ℕ → Verdict

@@ -16,7 +16,7 @@ use Rattle.meaning.specs.declared.Verdict.{Verdict}
 use Rattle.meaning.specs.declared.Verdict.the-variants.{Accepted, Refused}
 use Rattle.meaning.specs.declared.Listed.{Listed}
 use Rattle.meaning.specs.Design.{objects, blocks, parametersOf}
-use Rattle.meaning.specs.Analysis.{numeratorOf, denominatorOf, deviationOf, scale}
+use Rattle.meaning.specs.Analysis.{numeratorOf, denominatorOf, deviationOf, vbeta}
 use Rattle.meaning.specs.Publishing.{published}
 use Rattle.meaning.specs.Refusals.{room}
 use Rattle.meaning.specs.Calls.{given, spreadingOf}
@@ -69,13 +69,13 @@ lastWord None k = ascii " none"
 
 -- Q, v·beta, f, k
 abbrev pub spreadLine : Spreading → List ℕ
-spreadLine s = line "spread" (spaced (s .q) ++ spaced (s .scale) ++ spaced (s .freedom) ++ lastWord (s .spread) (s .hundredths))
+spreadLine s = line "spread" (spaced (s .q) ++ spaced (s .vbeta) ++ spaced (s .freedom) ++ lastWord (s .spread) (s .hundredths))
 
 -- the listing of an accepted job
 abbrev pub jobText : Head → List ℕ → List ℤ → ℕ → ℤ → List ℕ
 jobText h d y w M = designLine (parametersOf h d)
     ++ each (objects h) (λ i. valueLine i (numeratorOf h d y w M i) (denominatorOf h d w) (published h d y w M i))
-    ++ each (blocks h) (λ k. devLine k (deviationOf h d y k) (scale h d))
+    ++ each (blocks h) (λ k. devLine k (deviationOf h d y k) (vbeta h d))
     ++ spreadLine (spreadingOf h d y)
 
 -- the text for a file by its verdict: the listing, or refused, number, place

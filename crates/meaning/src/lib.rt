@@ -8,7 +8,7 @@ pub struct Head {
     pub m: usize,
 }
 
-// What every call answers: it accepts, or refuses by the request's number at a place.
+// How a call ends: it accepts, or refuses by the request's number at a place.
 pub enum Verdict {
     Accepted,
     Refused(u8, usize),
@@ -47,7 +47,7 @@ pub enum Spread {
 // What a spread is made from: Q, v times beta, the degrees of freedom, and the whole hundredths.
 pub struct Spreading {
     pub q: u64,
-    pub scale: u64,
+    pub vbeta: u64,
     pub freedom: u64,
     pub hundredths: u64,
     pub spread: Spread,
@@ -90,7 +90,7 @@ pub struct JobSpread {
     pub spreading: Spreading,
 }
 
-// The answer of a call that works out a whole job: beside what it lays into the lent rooms, all that a listing needs.
+// The answer of a call that works out a whole job, beside what it lays into the lent rooms: the denominator is that of every value.
 pub struct Solved {
     pub verdict: Verdict,
     pub parameters: Parameters,
@@ -98,12 +98,12 @@ pub struct Solved {
     pub spreading: Spreading,
 }
 
-// The answer of a call that reads a job file: its head, where its blocks and its readings start, its restraint set and accepted sum.
+// The answer of a call that reads a job file: its head, the bytes at which its blocks and its readings start, its restraint set and accepted sum.
 pub struct JobRead {
     pub verdict: Verdict,
     pub head: Head,
-    pub blocks: usize,
-    pub readings: usize,
+    pub blocks_at: usize,
+    pub readings_at: usize,
     pub set: u64,
     pub sum: i64,
 }

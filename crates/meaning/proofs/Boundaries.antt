@@ -287,6 +287,7 @@ numberRows =
     ∷ floats (spreadValue (spreadOf 25 1)) (fin false 1 (negsuc 1)) 1
     ∷ floats (spreadValue (spreadOf 25 0)) floatZero 1
     ∷ floats (valueAnswer three pair ys 5 (negsuc 0) 1 .value .value) (fin true 1 (pos 2)) 1
+    ∷ floats (valueAnswer three pair ys 7 (negsuc 0) 0 .value .value) (fin false 6004799503160661 (negsuc 53)) 1
     ∷ floats (noValue .value) floatZero 1
     ∷ floats (valueAnswer three pair ys 0 (negsuc 0) 1 .value .value) floatZero 1
     ∷ holding (spreadFreedom (spreadOf 25 4) ∷ spreadFreedom (spreadOf 25 0) ∷ []) (4 ∷ 0 ∷ [])
@@ -426,7 +427,20 @@ pub no-nearer : Near 55 (float (pos 1) 3) (pos 1) 3 → ⊥
 unfolding round
 no-nearer near = absurd (omega (arith, near .1))
 
+-- the values of example A
+abbrev valuesOfA : ℕ → Fraction
+valuesOfA = exactValues (headOf fileA) (blocksOf fileA) (readingsOf fileA) 3 (pos 7)
+
 -- example A: the sum of squared deviations of its exact values is Q over v·beta, 25/5
-pub squares-of-A : squaresUnder (headOf fileA) (blocksOf fileA) (readingsOf fileA) (exactValues (headOf fileA) (blocksOf fileA) (readingsOf fileA) 3 (pos 7)) =ᶠ record { top = pos 25; bottom = 5 }
+pub squares-of-A : squaresUnder (headOf fileA) (blocksOf fileA) (readingsOf fileA) valuesOfA =ᶠ record { top = pos 25; bottom = 5 }
 unfolding sum sumℕ occ plus left right company opposition beta total members restrained numeratorOf denominatorOf big numbersAt summed valuesAlong deviationUnder squaresUnder
 squares-of-A = refl
+
+-- example A: its exact values keep the restraint, and its published values are the listed hundredths of a count
+pub restraint-of-A : KeepsRestraint 5 3 (pos 7) valuesOfA
+unfolding sum sumℕ occ plus left right company opposition beta total members restrained numeratorOf denominatorOf big numbersAt summed
+restraint-of-A = refl
+
+pub published-of-A : publishedValues (headOf fileA) (blocksOf fileA) (readingsOf fileA) 3 (pos 7) 1 =ᶠ record { top = pos 73; bottom = 10 }
+unfolding sum sumℕ occ plus left right company opposition beta total members restrained numeratorOf denominatorOf big numbersAt published
+published-of-A = refl

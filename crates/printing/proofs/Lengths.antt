@@ -1,0 +1,61 @@
+-- How long a number's text and lines one after the other are at most. Assumes nothing.
+use mathlib.Core.Bool.{Bool, true, false, cond}
+use mathlib.Core.Path.{_≡_, refl}
+use mathlib.Core.List.{List, [], _∷_, _++_}
+use Prim.Native.Nat.{ℕ, zero, suc, _+_, _*_, _/_, _%_, _^_, _≤_, _<_}
+use native.Mathlib.Nat.{pow-suc, div-lt-iff-lt-mul, suc-mul}
+use native.Mathlib.Omega.{arith}
+use lib.Dec.{ltb, lit<}
+use lib.IntN.{ℤ, pos, negsuc, natAbs}
+use lib.ListN.{length, length-append}
+use borrow.Author.Tests.{ltb-false}
+use Rattle.meaning.specs.Text.{digits, spaced, signedText, each}
+
+-- one digit more than the tenth has
+one-longer : (s k n : ℕ) → (10 ≤ n → length (digits s (n / 10)) ≤ k) → length (digits (suc s) n) ≤ suc k
+unfolding digits
+one-longer s k n rest = by (ltb n 10) refl
+  where
+    by : (b : Bool) → ltb n 10 ≡ b → length (cond b ((48 + n) ∷ []) (digits s (n / 10) ++ ((48 + n % 10) ∷ []))) ≤ suc k
+    by true e = omega arith
+    by false e = rw length-append (omega (arith, rest (ltb-false n 10 e)))
+
+-- as many digits as there are places, at most
+digits-places : (s n : ℕ) → length (digits s n) ≤ s
+unfolding digits
+digits-places zero n = omega arith
+digits-places (suc s) n = one-longer s s n (λ l. digits-places s (n / 10))
+
+-- as many digits as the power of ten that the number is below, at most
+digits-power : (s k n : ℕ) → n < 10 ^ suc k → length (digits (suc s) n) ≤ suc k
+digits-power zero k n h = omega (arith, digits-places 1 n)
+digits-power (suc s) zero n h = one-longer (suc s) zero n (λ l. absurd (omega arith))
+digits-power (suc s) (suc k) n h = one-longer (suc s) (suc k) n (λ l. digits-power s k (n / 10) (div-lt-iff-lt-mul (lit< tt) .1 (rw pow-suc at h)))
+
+-- below 10 to the power k + 1 a number has at most k + 1 digits
+pub digits-length : (k n : ℕ) → n < 10 ^ suc k → length (digits 20 n) ≤ k + 1
+digits-length k n h = omega (arith, digits-power 19 k n h)
+
+-- and its text one byte more
+pub spaced-length : (k n : ℕ) → n < 10 ^ suc k → length (spaced n) ≤ k + 2
+spaced-length k n h = omega (arith, digits-power 19 k n h)
+
+-- a signed number whose size is below 10 to the power k + 1
+pub signed-length : (k : ℕ) (x : ℤ) → natAbs x < 10 ^ suc k → length (signedText x) ≤ k + 3
+signed-length k (pos n) h = omega (arith, digits-power 19 k n h)
+signed-length k (negsuc n) h = omega (arith, digits-power 19 k (suc n) h)
+
+-- the text of any number
+pub spaced-most : (n : ℕ) → length (spaced n) ≤ 21
+spaced-most n = omega (arith, digits-places 20 n)
+
+-- the text of any signed number
+pub signed-most : (x : ℤ) → length (signedText x) ≤ 22
+signed-most (pos n) = omega (arith, digits-places 20 n)
+signed-most (negsuc n) = omega (arith, digits-places 20 (suc n))
+
+-- n lines of at most m bytes each
+pub each-length : (n m : ℕ) (f : ℕ → List ℕ) → ((i : ℕ) → i < n → length (f i) ≤ m) → length (each n f) ≤ n * m
+unfolding each
+each-length zero m f h = omega arith
+each-length (suc n) m f h = rw (length-append, suc-mul) (omega (arith, each-length n m f (λ i l. h i (omega arith)), h n (omega arith)))

@@ -1,5 +1,4 @@
 -- `printing::put_digits` meets its contract. It calls itself on a tenth, as `digits` does; the measure is n. Assumes nothing.
-use mathlib.Core.Path.{sym}
 use Prim.Native.Nat.{ℕ, _<_}
 use native.Mathlib.Omega.{arith}
 use borrow.Author.Needs.{needs}
@@ -40,6 +39,10 @@ pub +put-digits-spec : {M : Type 1} → statement M
     (λ c. omega arith)
     (λ c κs. tt)
     (λ c. search needs)
-    (λ c. named (c .before .before .put-byte .ensures) (sym (digits-one _ (omega arith))))
+    (λ c. named (c .before .before .put-byte .ensures) (rw (digits-one (c .before .before .before .before .before .before .args .n) (omega arith)) (search needs)))
     (λ c. search needs)
-    (λ c. named (c .before .before .before .before .before .before .put-digits .ensures then c .before .before .put-byte2 .ensures) (sym (digits-more _ (omega arith) (omega arith))))
+    (λ c.
+    let c2 = c .before .before in
+    let c1 = c2 .before .before .before .before in
+    let n = c1 .before .before .before .before .args .n in
+    named (c1 .put-digits .ensures then c2 .put-byte2 .ensures) (rw (digits-more n (omega arith) (omega arith)) (search needs)))

@@ -1,5 +1,5 @@
 -- `printing::magnitude` meets its contract: for x below 0, `!x` is one less than its size. Assumes nothing.
-use mathlib.Core.Path.{_≡_, sym}
+use mathlib.Core.Path.{_≡_}
 use mathlib.Core.Bool.{true}
 use Prim.Native.Nat.{_-_, _^_}
 use native.Mathlib.Omega.{arith}
@@ -32,5 +32,5 @@ magnitude-spec =
     (λ c. rw (flip c) (tt, record { fits = omega (arith, c .before .fits .x .sfits) }))
     (λ c. rw (flip c) (record { fits = omega (arith, c .before .fits .x .sfits) }))
     cast-result-2
-    (λ c. rw (flip c) (sym (size-below (c .before .args .x) (below c))))
+    (λ c. rw (flip c, size-below (c .before .args .x) (below c)) (search needs))
     (λ c. search needs))

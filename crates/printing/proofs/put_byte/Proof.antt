@@ -1,6 +1,6 @@
 -- `printing::put_byte` meets its contract: the byte is stored, or dropped, or lost at the last place. Assumes nothing.
 use native.Mathlib.Omega.{arith}
-use Rattle.algebra.proofs.Writing.{stored, dropped, lost}
+use Rattle.algebra.proofs.Writing.{named, stored, dropped, lost}
 use borrow.Author.Needs.{needs}
 use Rattle.printing.proofs.put_byte.Statement.{statement}
 use Rattle.printing.proofs.put_byte.Tie as tie
@@ -12,7 +12,7 @@ put-byte-spec =
     (λ c. search needs)
     (λ c. search needs)
     (λ c. search needs)
-    (λ c. stored _ _ _ (omega arith))
+    (λ c. named (stored _ _ _ (omega arith)) (search needs))
     (λ c. search needs)
     (λ c. dropped _ _ _ (omega arith) (omega arith))
     (λ c. lost _ _ _ (omega arith) (omega arith)))

@@ -1,10 +1,7 @@
 -- `printing::put_signed` meets its contract: the size that is printed is that of x, in both arms. Assumes nothing.
 use mathlib.Core.Path.{_≡_, sym, ap, _∙_}
-use mathlib.Core.List.{_∷_}
-use Prim.Native.Nat.{ℕ}
 use lib.IntN.{natAbs}
 use mir.Facts.{toZ-ofZ}
-use Rattle.meaning.specs.Text.{digits, spaced}
 use Rattle.algebra.proofs.Signs.{plain}
 use Rattle.algebra.proofs.Writing.{_then_, named}
 use Rattle.printing.proofs.Signed.{signed-below, signed-above}
@@ -28,7 +25,7 @@ returns c =
     let x = start m .args .x in
     let below = plain _ (start m .fits .x) (c1 .before .before .if1 .taken) in
     named (c1 .put-byte .ensures then c2 .put-byte2 .ensures then c3 .put-digits .ensures)
-    (sym (signed-below x below ∙ ap (λ (n : ℕ). 32 ∷ 45 ∷ digits 20 n) (size m)))
+    (rw (signed-below x below, size m) (search needs))
 
 returns-2 : tie.Need-returns-2
 returns-2 c =
@@ -36,7 +33,7 @@ returns-2 c =
     let m = c1 .before .before .before in
     let x = start m .args .x in
     let above = plain _ (start m .fits .x) (c1 .before .before .if1 .left) in
-    named (c1 .put-number .ensures) (sym (signed-above x above ∙ ap spaced (size m)))
+    named (c1 .put-number .ensures) (rw (signed-above x above, size m) (search needs))
 
 pub put-signed-spec : {M : Type 1} → statement M
 put-signed-spec =

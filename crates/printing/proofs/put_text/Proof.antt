@@ -20,7 +20,7 @@ loop-again c =
     let put = c .before .before in
     let turn = put .before .before .before .before in
     let start = turn .before .before .before in
-    (omega arith, more-bytes (start .args .text .now) (turn .loop .i) (omega arith) (turn .loop .inv .1) (put .put-byte .ensures))
+    (omega arith, more-bytes (start .args .text .now) (turn .loop .i) (omega arith) (turn .loop .inv .1) (named (put .put-byte .ensures) (search needs)))
 
 returns : tie.Need-returns Inv-loop μ-loop
 returns c =

@@ -1,6 +1,6 @@
 -- `lines::put_value` meets its contract: its word, four numbers, two of them signed, a newline. Assumes nothing.
 use Rattle.algebra.proofs.Writing.{_then_, named}
-use Rattle.printing.proofs.Signed.{handed-on}
+use mir.Facts.{toZ-ofZ}
 use Rattle.meaning.specs.Text.{ascii}
 use borrow.Author.Needs.{needs}
 use Rattle.lines.proofs.put_value.Statement.{statement}
@@ -16,7 +16,8 @@ returns c =
     let c2 = c3 .before .before .before .before in
     let c1 = c2 .before .before .before .before in
     let start = c1 .before .before .before .before in
-    named (c1 .put-text .ensures then (c2 .put-number .ensures then handed-on _ (start .fits .numerator) (c3 .put-signed .ensures) then c4 .put-number2 .ensures then handed-on _ (start .fits .hundredths) (c5 .put-signed2 .ensures)) then c6 .put-byte .ensures) (search needs)
+    named (c1 .put-text .ensures then (c2 .put-number .ensures then c3 .put-signed .ensures then c4 .put-number2 .ensures then c5 .put-signed2 .ensures) then c6 .put-byte .ensures)
+    (rw (toZ-ofZ (start .fits .numerator), toZ-ofZ (start .fits .hundredths)) (search needs))
 
 pub put-value-spec : {M : Type 1} → statement M
 put-value-spec =

@@ -2,9 +2,8 @@
 use meaning::Parameters;
 use meaning::Spread;
 use meaning::Spreading;
-ghost use mathlib.Core.List.{_++_};
 ghost use Rattle.algebra.specs.Buffers.{Wrote};
-ghost use Rattle.meaning.specs.Text.{line, spaced, designLine, valueLine, devLine, lastWord, spreadLine};
+ghost use Rattle.meaning.specs.Text.{designLine, valueLine, devLine, lastWord, spreadLine, refusedLine};
 
 // The design's parameters.
 pub fn put_design(out: &mut [u8], at: usize, parameters: Parameters) -> usize
@@ -81,7 +80,7 @@ pub fn put_spread(out: &mut [u8], at: usize, spreading: Spreading) -> usize
 
 // A refusal: its number and its place.
 pub fn put_refused(out: &mut [u8], at: usize, number: u8, place: usize) -> usize
-    ensures { λ r. ⌜ Wrote (now (out .entry)) at (line "refused" (spaced number ++ spaced place)) (now (out .exit)) r ⌝ }
+    ensures { λ r. ⌜ Wrote (now (out .entry)) at (refusedLine number place) (now (out .exit)) r ⌝ }
 {
     let a = printing::put_text(out, at, b"refused");
     let a1 = printing::put_number(out, a, number as u64);

@@ -3,7 +3,7 @@ use Prim.Native.Nat.{ℕ, zero, suc, _*_, _<_}
 use mathlib.Core.List.{List, [], _∷_}
 use mathlib.Core.Path.{_≡_}
 use lib.IntN.{ℤ, pos, _+ℤ_, _-ℤ_, _*ℤ_}
-use lib.Signed.{_<ℤ_}
+use lib.Signed.{_≤ℤ_, _<ℤ_}
 use Rattle.meaning.specs.declared.Head.{Head}
 use Rattle.meaning.specs.Design.{blocks, left, right}
 use Rattle.meaning.specs.Analysis.{sq, reading, member, numeratorOf, denominatorOf}
@@ -20,7 +20,7 @@ whole a = record { top = a; bottom = 1 }
 
 -- x plus y, x less y, and x squared
 infixl 30 _+ᶠ_ _-ᶠ_
-infix 20 _=ᶠ_ _<ᶠ_
+infix 20 _=ᶠ_ _≤ᶠ_ _<ᶠ_
 abbrev pub _+ᶠ_ : Fraction → Fraction → Fraction
 x +ᶠ y = record { top = x .top *ℤ pos (y .bottom) +ℤ y .top *ℤ pos (x .bottom); bottom = x .bottom * y .bottom }
 
@@ -30,9 +30,12 @@ x -ᶠ y = record { top = x .top *ℤ pos (y .bottom) -ℤ y .top *ℤ pos (x .b
 abbrev pub squared : Fraction → Fraction
 squared x = record { top = sq (x .top); bottom = x .bottom * x .bottom }
 
--- x and y are the same fraction; x is below y (bottoms are above 0)
+-- x and y are the same fraction; x is at most y; x is below y (bottoms are above 0)
 abbrev pub _=ᶠ_ : Fraction → Fraction → Type 0
 x =ᶠ y = x .top *ℤ pos (y .bottom) ≡ y .top *ℤ pos (x .bottom)
+
+abbrev pub _≤ᶠ_ : Fraction → Fraction → Type 0
+x ≤ᶠ y = (x .top *ℤ pos (y .bottom)) ≤ℤ (y .top *ℤ pos (x .bottom))
 
 abbrev pub _<ᶠ_ : Fraction → Fraction → Type 0
 x <ᶠ y = (x .top *ℤ pos (y .bottom)) <ℤ (y .top *ℤ pos (x .bottom))

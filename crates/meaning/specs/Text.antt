@@ -78,10 +78,14 @@ jobText h d y w M = designLine (parametersOf h d)
     ++ each (blocks h) (λ k. devLine k (deviationOf h d y k) (vbeta h d))
     ++ spreadLine (spreadingOf h d y)
 
--- the text for a file by its verdict: the listing, or refused, number, place
+-- refused, number, place
+abbrev pub refusedLine : ℕ → ℕ → List ℕ
+refusedLine k place = line "refused" (spaced k ++ spaced place)
+
+-- the text for a file by its verdict: the listing, or the refusal alone
 abbrev pub textUnder : Verdict → List ℕ → List ℕ
 textUnder Accepted s = jobText (headOf s) (blocksOf s) (readingsOf s) (setOf s) (sumOf s)
-textUnder (Refused k place) s = line "refused" (spaced k ++ spaced place)
+textUnder (Refused k place) s = refusedLine k place
 
 -- the text for any file
 unfoldable pub textOf : List ℕ → List ℕ

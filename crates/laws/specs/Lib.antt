@@ -1,0 +1,2 @@
+-- What private functions may ask of a head.
+pub mod Fits

@@ -11,3 +11,4 @@ pub mod Analysis
 pub mod Rounding
 pub mod Sizes
 pub mod Fractions
+pub mod Files

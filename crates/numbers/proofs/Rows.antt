@@ -1,0 +1,55 @@
+-- Laws of the numbers that stand one after another in the bytes, and of a room that is written with them: how many, which, and what the room's start is. Assumes nothing.
+use Prim.Native.Nat.{ℕ, zero, suc, _+_, _*_, _<_, _≤_}
+use mathlib.Core.Path.{_≡_, refl, sym, ap, ap₂, _∙_}
+use mathlib.Core.List.{List, [], _∷_}
+use native.Mathlib.Omega.{arith}
+use native.Mathlib.Nat.{not-suc-le-zero, le-of-suc-le-suc}
+use lib.ListN.{getD, take, length}
+use lib.IntN.{ℤ, pos}
+use Rattle.algebra.specs.Buffers.{over}
+use Rattle.algebra.proofs.Filling.{over-ext}
+use Rattle.meaning.specs.File.{big, twos, numbersAt}
+
+-- number k of those from `at` on
+abbrev pub numberOf : List ℕ → ℕ → ℕ → ℤ
+numberOf s at k = twos 32 (big s (at + 4 * k) 4)
+
+-- the first of them
+first : (s : List ℕ) (at : ℕ) → numberOf s at 0 ≡ twos 32 (big s at 4)
+first s at = ap (λ (place : ℕ). twos 32 (big s place 4)) (omega arith)
+
+-- the next of them is that of the rest
+next : (s : List ℕ) (at k : ℕ) → numberOf s at (suc k) ≡ numberOf s (at + 4) k
+next s at k = ap (λ (place : ℕ). twos 32 (big s place 4)) (omega arith)
+
+-- there are c of them
+pub length-numbers : (s : List ℕ) (at c : ℕ) → length (numbersAt s at c) ≡ c
+unfolding numbersAt
+length-numbers s at zero = refl
+length-numbers s at (suc c) = ap suc (length-numbers s (at + 4) c)
+
+-- which stands at k
+pub getD-numbers : (s : List ℕ) (at c k : ℕ) → k < c → getD (numbersAt s at c) k (pos 0) ≡ numberOf s at k
+unfolding numbersAt
+getD-numbers s at zero k h = absurd (not-suc-le-zero h)
+getD-numbers s at (suc c) zero h = sym (first s at)
+getD-numbers s at (suc c) (suc k) h = getD-numbers s (at + 4) c k (le-of-suc-le-suc h) ∙ sym (next s at k)
+
+-- a room that holds c of them holds them at its start
+pub take-numbers : (s : List ℕ) (at c : ℕ) (l : List ℤ) → c ≤ length l → take c (over c (numberOf s at) l) ≡ numbersAt s at c
+unfolding numbersAt over
+take-numbers s at zero l h = refl
+take-numbers s at (suc c) [] h = absurd (not-suc-le-zero h)
+take-numbers s at (suc c) (x ∷ l) h =
+    ap₂ (λ (y : ℤ) (ys : List ℤ). y ∷ ys) (first s at)
+    (ap (take c) (over-ext c (λ (k : ℕ). numberOf s at (suc k)) (numberOf s (at + 4)) l (λ k hk. next s at k)) ∙ take-numbers s (at + 4) c l (le-of-suc-le-suc h))
+
+-- a room that is full at i stays as it is
+pub over-full : {A : Type 0} (i v : ℕ) (f : ℕ → A) (l : List A) → length l ≤ i → i ≤ v → over i f l ≡ over v f l
+unfolding over
+over-full zero zero f l h e = refl
+over-full zero (suc v) f [] h e = refl
+over-full zero (suc v) f (x ∷ l) h e = absurd (not-suc-le-zero h)
+over-full (suc i) zero f l h e = absurd (not-suc-le-zero e)
+over-full (suc i) (suc v) f [] h e = refl
+over-full {A = A} (suc i) (suc v) f (x ∷ l) h e = ap (λ (t : List A). f 0 ∷ t) (over-full i v (λ (k : ℕ). f (suc k)) l (le-of-suc-le-suc h) (le-of-suc-le-suc e))

@@ -3,7 +3,7 @@ use Prim.Native.Nat.{ℕ, suc, _+_, _-_, _≤_, _<_, _^_}
 use mathlib.Core.Path.{_≡_, ap, _∙_}
 use native.Mathlib.Omega.{arith}
 use borrow.Author.Tests.{lt-ltb}
-use lib.IntN.{ℤ, negsuc, _+ℤ_}
+use lib.IntN.{negsuc, _+ℤ_}
 use mir.Syntax.{Width}
 use mir.Val.{toZ, ofZ, SFits, hbits}
 use mir.ValLaws.{toZ-pos, toZ-ofZ}

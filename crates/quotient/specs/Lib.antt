@@ -1,0 +1,2 @@
+-- What the two public functions answer, on every input.
+pub mod Quotient

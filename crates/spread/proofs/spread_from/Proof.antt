@@ -1,0 +1,17 @@
+-- `spread_from`: its two calls give the two parts. Assumes nothing.
+use borrow.Author.Needs.{needs}
+use mathlib.Core.Path.{sym, subst}
+use Prim.Native.Nat.{ℕ, _^_, _<_}
+use native.Mathlib.Omega.{arith}
+use Rattle.spread.proofs.Range.{hundredths-small, spreading-is}
+use Rattle.spread.proofs.spread_from.Statement.{statement}
+use Rattle.spread.proofs.spread_from.Tie as tie
+
+as-spread-requires : tie.Need-as-spread-requires
+as-spread-requires c κs = omega (arith, c .hundredths-from .ensures, hundredths-small (c .before .args .q) (c .before .args .vbeta) (c .before .args .freedom))
+
+returns : tie.Need-returns
+returns c = spreading-is _ _ _ _ _ (c .before .hundredths-from .ensures) (c .as-spread .ensures)
+
+pub spread-from-spec : {M : Type 1} → statement M
+spread-from-spec = tie.close (tie.spec (λ c κs. search needs) as-spread-requires returns)

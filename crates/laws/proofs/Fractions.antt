@@ -12,15 +12,15 @@ use native.Mathlib.Nat.{mul-pos}
 use native.Mathlib.Omega.{arith}
 use native.Mathlib.Decide.{ℕ-discrete}
 use lib.Dec.{eqb}
-use lib.IntN.{ℤ, pos, _+ℤ_, _-ℤ_, _*ℤ_}
+use lib.IntN.{ℤ, pos, negℤ, _+ℤ_, _-ℤ_, _*ℤ_}
 use lib.Signed.{_≤ℤ_, _<ℤ_}
 use borrow.Author.Tests.{eq-eqb, ne-eqb}
 use Rattle.algebra.specs.Ranges.{sum}
-use Rattle.algebra.proofs.Solver.{_⊕_, _⊗_, _⊝_, #, _≐_, ring₂, ring₃, ring₄, ring₅, ring₆, ring₇}
+use Rattle.algebra.proofs.Solver.{_⊕_, _⊗_, _⊝_, ⊖_, #, _≐_, ring₂, ring₃, ring₄, ring₅, ring₆, ring₇}
 use Rattle.algebra.proofs.Order.{pos-nonneg, ≤ℤ-*, <ℤ-*, *ℤ-cancel-l, comb₁, comb₂}
 use Rattle.meaning.specs.declared.Head.{Head}
 use Rattle.meaning.specs.Design.{objects, blocks, left, right, beta}
-use Rattle.meaning.specs.Analysis.{sq, reading, member, members, restrained, vbeta, numeratorOf, denominatorOf, along, difference, qOf}
+use Rattle.meaning.specs.Analysis.{sq, reading, member, members, restrained, vbeta, numeratorOf, denominatorOf, along, difference, deviationOf, qOf}
 use Rattle.meaning.specs.Publishing.{published}
 use Rattle.meaning.specs.Fractions.{Fraction, whole, _+ᶠ_, _-ᶠ_, squared, _=ᶠ_, _≤ᶠ_, _<ᶠ_, summed, valuesAlong, deviationUnder, squaresUnder, KeepsRestraint, Proper, exactValues, publishedValues}
 use Rattle.meaning.specs.Refusals.{accepted}
@@ -30,7 +30,7 @@ use Rattle.laws.proofs.Occurrences.{Each, each-head, each-tail}
 use Rattle.laws.proofs.Clean.{left-objects, right-objects}
 use Rattle.laws.proofs.LeastSquares.{not-zero}
 use Rattle.laws.proofs.Solution.{cancel-≤, cancel-<}
-use Rattle.laws.proofs.Analysis.{squaresOver, restraint-kept, exact-over, least-strict, hundredths-above, hundredths-near, vbeta-some, job-members, job-denominator}
+use Rattle.laws.proofs.Analysis.{squaresOver, restraint-kept, deviation-is, exact-over, least-strict, hundredths-above, hundredths-near, vbeta-some, job-members, job-denominator}
 use Rattle.laws.proofs.Rounding.{published-near}
 
 -- ---- a fraction over a given denominator
@@ -257,6 +257,31 @@ module _ (h : Head) (d : List ℕ) (y : List ℤ) (w : ℕ) (M : ℤ) (e : jobVe
   -- the squares of the exact values are Q over vβ
   pub exact-squares : squaresUnder h d y (exactValues h d y w M) =ᶠ record { top = pos (qOf h d y); bottom = vbeta h d }
   exact-squares = exact-over-vbeta .same
+
+  -- the deviation of a block under the exact values is its numerator over vβ
+  pub exact-deviation : (k : ℕ) → k < blocks h → deviationUnder h d y (exactValues h d y w M) k =ᶠ record { top = deviationOf h d y k; bottom = vbeta h d }
+  unfolding denominatorOf
+  exact-deviation k l =
+      *ℤ-cancel-l (pos (members (objects h) w)) (X .top *ℤ pos (vbeta h d)) (deviationOf h d y k *ℤ pos (X .bottom)) (not-zero (members (objects h) w) (job-members h d y w M j))
+      (comb₂ (pos 1) (negℤ (pos (X .bottom))) (o .same) (deviation-is h d s y w M k l)
+      (ring₆ (λ x b t c e n. t ⊗ (x ⊗ c) ⊝ t ⊗ (e ⊗ b) ≐ # 1 ⊗ (x ⊗ (t ⊗ c) ⊝ n ⊗ b) ⊕ ⊖ b ⊗ (t ⊗ e ⊝ n))
+      (X .top) (pos (X .bottom)) (pos (members (objects h) w)) (pos (vbeta h d)) (deviationOf h d y k) N refl))
+    where
+      X : Fraction
+      X = deviationUnder h d y (exactValues h d y w M) k
+
+      N : ℤ
+      N = pos (denominatorOf h d w) *ℤ reading y k -ℤ difference h d (numeratorOf h d y w M) k
+
+      o : Over (denominatorOf h d w) N X
+      o = over-deviation h d s y (denominatorOf h d w) (numeratorOf h d y w M) (exactValues h d y w M) exact-each k l
+
+  -- the exact values are values, and the squares of any values are a fraction
+  pub exact-proper : Proper (objects h) (exactValues h d y w M)
+  exact-proper i l = job-denominator h d y w M j
+
+  pub squares-proper : (u : ℕ → Fraction) → Proper (objects h) u → 0 < squaresUnder h d y u .bottom
+  squares-proper u values = let c = common (objects h) u values in over-squares h d s y (c .denominator) (c .numerators) u (c .each) .some
 
   -- any other values that keep the restraint, be it in one object, have larger squares
   pub least : (u : ℕ → Fraction) → Proper (objects h) u → KeepsRestraint (objects h) w M u →

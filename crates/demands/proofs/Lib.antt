@@ -1,0 +1,3 @@
+-- The one page of demands, and the small laws that only it needs.
+pub mod Order
+pub mod Demands

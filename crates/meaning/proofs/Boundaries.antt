@@ -106,6 +106,8 @@ sizeRows =
     ∷ refuses (sizes (head 5 0 0 1)) 4 0
     ∷ refuses (sizes (head 3 1 2 1)) 0 0
     ∷ refuses (sizes (head 3 0 2 1)) 4 0
+    ∷ refuses (sizes (head 6 0 3 1)) 0 0
+    ∷ refuses (sizes (head 5 0 3 1)) 4 0
     ∷ refuses (sizes (head 5 0 2 0)) 4 0
     ∷ refuses (sizes (head 20 0 1 64)) 0 0
     ∷ refuses (sizes (head 3 0 1 65)) 4 0
@@ -240,6 +242,7 @@ heldRows =
     ∷ holding (valueAnswer three pair ys 5 (negsuc 0) 1 .value .denominator ∷ valueAnswer three pair ys 0 (negsuc 0) 1 .value .denominator ∷ []) (6 ∷ 0 ∷ [])
     ∷ counting 2 (λ i. getD (valueAnswer three pair ys 0 (negsuc 0) 1 .value .numerator ∷ valueAnswer three pair ys 0 (negsuc 0) 1 .value .hundredths ∷ []) i (pos 7)) (pos 0 ∷ pos 0 ∷ [])
     ∷ counting 2 (λ i. getD (deviationAnswer three pair ys 1 .numerator ∷ deviationAnswer four pair ys4 1 .numerator ∷ []) i (pos 7)) (pos 3 ∷ pos 0 ∷ [])
+    ∷ counting 2 (λ i. getD (along (λ k. pos 3) [] ∷ along (λ k. pos 3) pair ∷ []) i (pos 7)) (pos 0 ∷ pos 6 ∷ [])
     ∷ holding (deviationAnswer three pair ys 1 .denominator ∷ deviationAnswer four pair ys4 1 .denominator ∷ []) (3 ∷ 0 ∷ [])
     ∷ holding
     (squaredReadingsAnswer three ys .sum ∷ squaredTotalsAnswer three pair ys .sum ∷ qAnswer three pair ys .sum ∷ squaredReadingsAnswer three far .sum ∷ squaredTotalsAnswer three pair far .sum ∷ qAnswer three pair far .sum ∷ [])
@@ -444,3 +447,8 @@ restraint-of-A = refl
 pub published-of-A : publishedValues (headOf fileA) (blocksOf fileA) (readingsOf fileA) 3 (pos 7) 1 =ᶠ record { top = pos 73; bottom = 10 }
 unfolding sum sumℕ occ plus left right company opposition beta total members restrained numeratorOf denominatorOf big numbersAt published
 published-of-A = refl
+
+-- over no objects the values add to 0
+pub nothing-along : valuesAlong valuesOfA [] =ᶠ record { top = pos 0; bottom = 1 }
+unfolding valuesAlong
+nothing-along = refl

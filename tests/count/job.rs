@@ -1,0 +1,187 @@
+//! The job file: written from a draft, and taken apart by a cursor of its own, with the refusals in file order.
+
+use crate::design::{balance, develop, Balance, Block};
+use std::collections::BTreeSet;
+
+/// How the fixed object is written in a block list.
+pub const INFINITY: u8 = 255;
+
+/// The widest reading and the widest accepted sum.
+pub const READING_LIMIT: i128 = 200_000;
+pub const SUM_LIMIT: i128 = 1_000_000_000;
+
+/// Number and place, as the listing prints them.
+#[derive(Clone, Copy, PartialEq, Eq, Debug)]
+pub struct Refusal {
+    pub number: u8,
+    pub place: usize,
+}
+
+fn refused<T>(number: u8, place: usize) -> Result<T, Refusal> {
+    Err(Refusal { number, place })
+}
+
+/// What the first field says.
+#[derive(Clone, Copy, PartialEq, Eq, Debug)]
+pub struct Head {
+    pub n: usize,
+    pub flag: usize,
+    pub p: usize,
+    pub m: usize,
+}
+
+impl Head {
+    pub fn objects(&self) -> usize {
+        self.n + self.flag
+    }
+
+    pub fn blocks(&self) -> usize {
+        self.m * self.n
+    }
+
+    /// All sizes kept. The numbers come from single bytes, so nothing here can wrap.
+    pub fn in_size(&self) -> bool {
+        (3..=50).contains(&self.n)
+            && self.flag <= 1
+            && self.objects() <= 50
+            && self.p >= 1
+            && 2 * self.p <= self.objects()
+            && (1..=64).contains(&self.m)
+            && self.blocks() <= 1300
+    }
+}
+
+/// A job's parts as they stand in the file, right or wrong.
+#[derive(Clone, PartialEq, Eq, Debug)]
+pub struct Draft {
+    pub n: u8,
+    pub flag: u8,
+    pub p: u8,
+    pub m: u8,
+    pub objects: Vec<u8>,
+    pub restraint: u64,
+    pub sum: i64,
+    pub readings: Vec<i32>,
+}
+
+impl Draft {
+    /// The file. Lengths are those of what is there, so a draft with a wrong head gives a file that is refused for it.
+    pub fn file(&self) -> Vec<u8> {
+        let mut bytes = field(1, vec![self.n, self.flag, self.p, self.m]);
+        bytes.extend(field(2, self.objects.clone()));
+        let mut restraint = self.restraint.to_be_bytes().to_vec();
+        restraint.extend(self.sum.to_be_bytes());
+        bytes.extend(field(3, restraint));
+        bytes.extend(field(4, self.readings.iter().flat_map(|reading| reading.to_be_bytes()).collect()));
+        bytes
+    }
+}
+
+fn field(tag: u8, body: Vec<u8>) -> Vec<u8> {
+    let mut bytes = vec![tag];
+    bytes.extend((body.len() as u16).to_be_bytes());
+    bytes.extend(body);
+    bytes
+}
+
+/// A job that nothing refuses, with its design developed and counted.
+pub struct Job {
+    pub head: Head,
+    pub blocks: Vec<Block>,
+    pub balance: Balance,
+    pub restraint: BTreeSet<usize>,
+    pub sum: i128,
+    pub readings: Vec<i128>,
+}
+
+/// What is left of the file, and where that begins.
+struct Cursor<'a> {
+    rest: &'a [u8],
+    place: usize,
+}
+
+impl<'a> Cursor<'a> {
+    /// Start, tag, length, body: in this order, every refusal at the field's start.
+    fn field(&mut self, tag: u8, length: usize) -> Result<&'a [u8], Refusal> {
+        let [found, high, low, after @ ..] = self.rest else {
+            return refused(1, self.place);
+        };
+        if *found != tag {
+            return refused(2, self.place);
+        }
+        if usize::from(*high) * 256 + usize::from(*low) != length {
+            return refused(3, self.place);
+        }
+        if after.len() < length {
+            return refused(1, self.place);
+        }
+        let (body, rest) = after.split_at(length);
+        self.rest = rest;
+        self.place += 3 + length;
+        Ok(body)
+    }
+}
+
+/// The job in these bytes, or the first refusal in file order.
+pub fn read(bytes: &[u8]) -> Result<Job, Refusal> {
+    let mut cursor = Cursor { rest: bytes, place: 0 };
+    let sizes = cursor.field(1, 4)?;
+    let head = Head { n: sizes[0].into(), flag: sizes[1].into(), p: sizes[2].into(), m: sizes[3].into() };
+    if !head.in_size() {
+        return refused(4, 0);
+    }
+    let objects_place = cursor.place + 3;
+    let objects = cursor.field(2, 2 * head.p * head.m)?;
+    let restraint_place = cursor.place;
+    let restraint = cursor.field(3, 16)?;
+    let readings_place = cursor.place + 3;
+    let readings = cursor.field(4, 4 * head.blocks())?;
+    if !cursor.rest.is_empty() {
+        return refused(9, cursor.place);
+    }
+
+    if let Some(index) = first_unclean(&head, objects) {
+        return refused(5, objects_place + index);
+    }
+    let blocks = develop(&head, objects);
+    let Some(balance) = balance(head.objects(), &blocks) else {
+        return refused(6, 0);
+    };
+    let (set, sum) = restraint.split_at(8);
+    let set: BTreeSet<usize> = (0..64).filter(|object| set[7 - object / 8] >> (object % 8) & 1 == 1).collect();
+    let sum = signed(sum);
+    if set.is_empty() || set.iter().any(|object| *object >= head.objects()) || sum.abs() > SUM_LIMIT {
+        return refused(7, restraint_place);
+    }
+    let readings: Vec<i128> = readings.chunks(4).map(signed).collect();
+    if let Some(index) = readings.iter().position(|reading| reading.abs() > READING_LIMIT) {
+        return refused(8, readings_place + 4 * index);
+    }
+    Ok(Job { head, blocks, balance, restraint: set, sum, readings })
+}
+
+/// The index of the first byte that is no object of this design, or stood in its block before.
+fn first_unclean(head: &Head, objects: &[u8]) -> Option<usize> {
+    let mut seen = BTreeSet::new();
+    for (index, object) in objects.iter().enumerate() {
+        if index % (2 * head.p) == 0 {
+            seen.clear();
+        }
+        let known = usize::from(*object) < head.n || *object == INFINITY && head.flag == 1;
+        if !known || !seen.insert(*object) {
+            return Some(index);
+        }
+    }
+    None
+}
+
+/// A signed number from its bytes, the highest first.
+fn signed(bytes: &[u8]) -> i128 {
+    let whole = bytes.iter().fold(0i128, |sum, byte| sum * 256 + i128::from(*byte));
+    let range = 1i128 << (8 * bytes.len());
+    if whole >= range / 2 {
+        whole - range
+    } else {
+        whole
+    }
+}

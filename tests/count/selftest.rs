@@ -1,0 +1,191 @@
+//! The figures that the request prints, each against the count; and that the designs made for trials are what they should be.
+
+use crate::balanced::{self, Design};
+use crate::design::{develop, pairs};
+use crate::job::{self, Head, Job};
+use crate::listing::listing;
+use crate::papers::{self, LISTS, TABLE_1, TABLE_2_TOTALS};
+use crate::seed::Seed;
+use crate::solve::{nearest_even, totals};
+use crate::stored::{self, A};
+
+const LISTING_OF_A: &str = "\
+design 5 5 4 2 1 2
+value 0 -3 10 -30
+value 1 73 10 730
+value 2 19 10 190
+value 3 5 10 50
+value 4 51 10 510
+dev 0 5 5
+dev 1 5 5
+dev 2 5 5
+dev 3 5 5
+dev 4 5 5
+spread 25 5 1 223
+";
+
+/// Stops at the first figure that is wrong; otherwise tells how many were looked at.
+pub fn selftest() -> usize {
+    let mut figures = Figures(0);
+    examples(&mut figures);
+    worked_example(&mut figures);
+    refusals(&mut figures);
+    rounding(&mut figures);
+    designs(&mut figures);
+    figures.0
+}
+
+struct Figures(usize);
+
+impl Figures {
+    fn same<T: PartialEq + std::fmt::Debug>(&mut self, about: &str, found: T, wanted: T) {
+        assert_eq!(found, wanted, "{about}");
+        self.0 += 1;
+    }
+}
+
+fn bytes_of(name: &str) -> Vec<u8> {
+    stored::trials().into_iter().find(|example| example.name == format!("{name}.job")).expect("a stored job").bytes
+}
+
+fn accepted(name: &str) -> Job {
+    job::read(&bytes_of(name)).unwrap_or_else(|refusal| panic!("{name}: {refusal:?}"))
+}
+
+fn line(text: &str, start: &str) -> String {
+    text.lines().find(|line| line.starts_with(start)).unwrap_or("").to_string()
+}
+
+fn examples(figures: &mut Figures) {
+    figures.same("A", listing(&A), LISTING_OF_A.to_string());
+    figures.same("T of A", totals(&accepted("A")), vec![-16, 22, -5, -12, 11]);
+    figures.same("B", line(&listing(&bytes_of("B")), "design"), "design 3 3 2 1 0 1".to_string());
+    figures.same("C", listing(&bytes_of("C")), "refused 6 0\n".to_string());
+    figures.same("D", line(&listing(&bytes_of("D")), "design"), "design 4 12 6 1 0 2".to_string());
+    let e = listing(&bytes_of("E"));
+    figures.same("E", line(&e, "design"), "design 8 7 7 4 3 4".to_string());
+    figures.same("E has no spread", line(&e, "spread").ends_with(" 8 0 none"), true);
+    figures.same("F", line(&listing(&bytes_of("F")), "design"), "design 13 39 12 2 1 2".to_string());
+    figures.same("G", listing(&bytes_of("G")), "refused 6 0\n".to_string());
+    let (p, objects) = papers::objects(11, "oo 1 4 | 5 9 3; 0 8 1 | 2 7 6");
+    let blocks = develop(&Head { n: 11, flag: 1, p: p.into(), m: 2 }, &objects);
+    let (company, _) = pairs(12, &blocks);
+    figures.same("G: 4 arises three times within sides", company[0][4], 3);
+    figures.same("G: 2 arises once within sides", company[0][2], 1);
+    figures.same("J", line(&listing(&bytes_of("J")), "design"), "design 8 28 21 3 6 9".to_string());
+    figures.same("K, 200,000", line(&listing(&bytes_of("K-reading-200000")), "design"), "design 5 5 4 2 1 2".to_string());
+    figures.same("K, 200,001", listing(&bytes_of("K-reading-200001")), "refused 8 48\n".to_string());
+    figures.same("K, n 50 alone", listing(&[1, 0, 4, 50, 0, 25, 26]), "refused 1 7\n".to_string());
+    figures.same("K, n 50", listing(&bytes_of("K-n50-flag0")), "refused 6 0\n".to_string());
+    figures.same("K, n 50 and the fixed object", listing(&bytes_of("K-n50-flag1")), "refused 4 0\n".to_string());
+    figures.same("K, empty", listing(&bytes_of("K-empty")), "refused 1 0\n".to_string());
+    figures.same("K, a byte added", listing(&bytes_of("K-byte-added")), "refused 9 56\n".to_string());
+}
+
+/// H, and that the readings of table 1 can be signed in one way only.
+fn worked_example(figures: &mut Figures) {
+    let h = accepted("H");
+    figures.same("H: the totals of table 2", totals(&h), TABLE_2_TOTALS.to_vec());
+    let squares: i128 = h.readings.iter().map(|reading| reading * reading).sum();
+    figures.same("H: the sum of squared readings", squares, 62_545_461);
+    let text = listing(&bytes_of("H"));
+    for (object, numerator) in [-10080, 9688, -47652, -13526, -13262, -56788, -32026].into_iter().enumerate() {
+        let wanted = format!("value {object} {numerator} 28 {}", nearest_even(100 * numerator, 28));
+        figures.same("H: a value", line(&text, &format!("value {object} ")), wanted);
+    }
+    figures.same("H: Q, v beta, f, k", line(&text, "spread"), "spread 63177554 14 15 54849".to_string());
+
+    let mut ways = 0;
+    let mut totals = [0i32; 7];
+    let mut signs = [1; 21];
+    let add = |totals: &mut [i32; 7], block: usize, reading: i32| {
+        h.blocks[block].left.iter().for_each(|object| totals[*object] += reading);
+        h.blocks[block].right.iter().for_each(|object| totals[*object] -= reading);
+    };
+    (0..21).for_each(|block| add(&mut totals, block, TABLE_1[block].abs()));
+    // Each step turns the sign of one reading, so that all ways come by.
+    for step in 1..=1u32 << 21 {
+        ways += usize::from(totals.iter().zip(TABLE_2_TOTALS).all(|(total, wanted)| i128::from(*total) == wanted));
+        let block = (step.trailing_zeros() as usize).min(20);
+        signs[block] = -signs[block];
+        add(&mut totals, block, 2 * signs[block] * TABLE_1[block].abs());
+    }
+    figures.same("H: ways to sign the readings", ways, 1);
+}
+
+fn refusals(figures: &mut Figures) {
+    for (name, wanted) in [
+        ("refused-1-start", "refused 1 7\n"),
+        ("refused-1-body", "refused 1 33\n"),
+        ("refused-2", "refused 2 7\n"),
+        ("refused-3", "refused 3 14\n"),
+        ("refused-4", "refused 4 0\n"),
+        ("refused-4-side", "refused 4 0\n"),
+        ("refused-5", "refused 5 12\n"),
+        ("refused-5-infinity", "refused 5 11\n"),
+        ("refused-6", "refused 6 0\n"),
+        ("refused-7", "refused 7 14\n"),
+        ("refused-7-sum", "refused 7 14\n"),
+        ("refused-8", "refused 8 44\n"),
+        ("refused-9", "refused 9 56\n"),
+    ] {
+        figures.same(name, listing(&bytes_of(name)), wanted.to_string());
+    }
+    for length in 0..A.len() {
+        let start = [33, 14, 7, 0].into_iter().find(|start| length >= *start).expect("0 is below all");
+        figures.same("A cut", listing(&A[..length]), format!("refused 1 {start}\n"));
+    }
+}
+
+fn rounding(figures: &mut Figures) {
+    figures.same("I: 1/8", nearest_even(100, 8), 12);
+    figures.same("I: 3/8", nearest_even(300, 8), 38);
+    figures.same("I: -1/8", nearest_even(-100, 8), -12);
+    let text = listing(&bytes_of("I"));
+    for (object, wanted) in ["value 0 1 8 12", "value 1 -1 8 -12", "value 2 3 8 38", "value 3 -7 8 -88"].into_iter().enumerate() {
+        figures.same("I as a job", line(&text, &format!("value {object} ")), wanted.to_string());
+    }
+    figures.same("a spread of 0", line(&listing(&bytes_of("end-spread-0")), "spread"), "spread 0 5 6 0".to_string());
+    let longest = bytes_of("end-longest");
+    figures.same("the longest file", longest.len(), 6584);
+    let last = line(&listing(&longest), "spread");
+    let q: i128 = last.split(' ').nth(1).expect("Q").parse().expect("a number");
+    figures.same("10,000 Q beyond 64 bits", 10_000 * q > i128::from(u64::MAX), true);
+}
+
+fn is_balanced(design: &Design) -> bool {
+    let head = Head { n: design.n.into(), flag: design.flag.into(), p: design.p.into(), m: design.m() };
+    head.in_size() && crate::design::balance(head.objects(), &develop(&head, &design.objects)).is_some()
+}
+
+fn designs(figures: &mut Figures) {
+    for n in 3..=49 {
+        for flag in 0..2 {
+            let design = balanced::all_pairs(n, flag, 1);
+            if design.m() <= 64 && design.m() * usize::from(n) <= 1300 {
+                figures.same("all pairs", is_balanced(&design), true);
+            }
+        }
+    }
+    let mut seed = Seed::new(3, 3);
+    for n in [3, 5, 7, 11, 13, 17, 19, 23] {
+        figures.same("squares", is_balanced(&balanced::squares(n)), true);
+        for p in 1..=(n + 1) / 2 {
+            for flag in 0..2 {
+                if 2 * p <= n + flag {
+                    if let Some(design) = balanced::over_prime(n, flag, p, &mut seed) {
+                        figures.same("over a prime", is_balanced(&design), true);
+                    }
+                }
+            }
+            if let Some(design) = balanced::powers(n, p) {
+                figures.same("powers", is_balanced(&design), true);
+            }
+        }
+    }
+    figures.same("over 49", is_balanced(&balanced::forty_nine()), true);
+    figures.same("50 residues, each difference once", is_balanced(&balanced::differences_once(50)), false);
+    let unsound: Vec<&str> =
+        LISTS.iter().filter(|list| listing(&stored::list_job(list).file()).starts_with("refused")).map(|list| list.name).collect();
+    figures.same("printed lists that are refused", unsound, vec!["000-2.9.2", "000-appendix-24"]);
+}

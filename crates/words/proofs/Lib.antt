@@ -1,0 +1,4 @@
+-- What is proved of words.
+pub mod Bits
+pub mod Sides
+pub mod Determined

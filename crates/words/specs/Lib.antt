@@ -1,0 +1,2 @@
+-- What a word says of the objects of a side.
+pub mod Bits

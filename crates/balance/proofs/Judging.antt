@@ -1,0 +1,150 @@
+-- The judgement, by what its tests gave: the test over two tables is the test of balance, and each way out of the call has its answer.
+--     pair-company-other, pair-opposition-other, pair-even    the test of one pair
+--     tables-more, tables-fail                                one turn of the test over two tables
+--     tables-tell, side-size                                  what the tables and the words of an accepted block list say
+--     tables-refused, tables-accepted                         the judgement over two tables
+--     judged-refused, judged-accepted                         the answer of the call
+-- Assumes nothing.
+use Prim.Native.Nat.{ℕ, _+_, _-_, _*_, _≤_, _<_}
+use mathlib.Core.Path.{_≡_, refl, ap, ap₂, _∙_}
+use mathlib.Core.Bool.{true, false, _&&_}
+use mathlib.Core.List.{List, [], replicate}
+use native.Mathlib.Nat.{mul-le-mul}
+use native.Mathlib.Omega.{arith}
+use borrow.Author.Tests.{eq-eqb, ne-eqb}
+use lib.Dec.{eqb}
+use lib.ListN.{getD}
+use Rattle.algebra.specs.Ranges.{sumℕ}
+use Rattle.algebra.specs.Buffers.{over}
+use Rattle.algebra.proofs.Filling.{getD-over}
+use Rattle.algebra.proofs.Tests.{all-cong, all-more, all-fails}
+use Rattle.meaning.specs.declared.Head.{Head}
+use Rattle.meaning.specs.declared.Judged.{Judged}
+use Rattle.meaning.specs.Design.{objects, blocks, left, company, opposition, balanced, beta}
+use Rattle.meaning.specs.Refusals.{accepted, refused}
+use Rattle.meaning.specs.Calls.{wordAt, designVerdict, judgeVerdict, judged, noParameters, tableOf}
+use Rattle.laws.proofs.Chains.{Sound, sound}
+use Rattle.laws.proofs.Clean.{block-once, left-objects, left-length}
+use Rattle.words.specs.Bits.{bit}
+use Rattle.words.proofs.Sides.{ones-word}
+use Rattle.balance.specs.Tables.{tally, entry, pairEven, rowEven, tablesEven, tablesJudged}
+use Rattle.balance.proofs.Counted.{tally-most, left-word, company-counted, opposition-counted}
+
+-- ---- the test of one pair
+
+module _ (c o : List ℕ) (l1 l2 j : ℕ) where
+  -- the company is another
+  pub pair-company-other : (getD c j 0 ≡ l1 → ⊥) → pairEven c o l1 l2 j ≡ false
+  pair-company-other other = rw (ne-eqb (getD c j 0) l1 other)
+
+  -- the company is right, and the opposition is another
+  pub pair-opposition-other : getD c j 0 ≡ l1 → (getD o j 0 ≡ l2 → ⊥) → pairEven c o l1 l2 j ≡ false
+  pair-opposition-other e other = rw (eq-eqb (getD c j 0) l1 e, ne-eqb (getD o j 0) l2 other)
+
+  -- both are right
+  pub pair-even : getD c j 0 ≡ l1 → getD o j 0 ≡ l2 → pairEven c o l1 l2 j ≡ true
+  pair-even e f = rw (eq-eqb (getD c j 0) l1 e, eq-eqb (getD o j 0) l2 f)
+
+-- ---- the test over two tables
+
+module _ (c o : List (List ℕ)) where
+  -- no row, as the loop begins
+  pub tables-none : tablesEven c o 0 ≡ true
+  unfolding tablesEven
+  tables-none = refl
+
+  -- one row more
+  pub tables-more : (i : ℕ) → tablesEven c o i ≡ true → rowEven (getD c i []) (getD o i []) (entry c 1 0) (entry o 1 0) i ≡ true → tablesEven c o (i + 1) ≡ true
+  unfolding tablesEven
+  tables-more i before here = all-more i _ before here
+
+  -- a row that fails
+  pub tables-fail : (v i : ℕ) → i < v → rowEven (getD c i []) (getD o i []) (entry c 1 0) (entry o 1 0) i ≡ false → tablesEven c o v ≡ false
+  unfolding tablesEven
+  tables-fail v i l here = all-fails v i _ l here
+
+-- an entry of a table of f
+pub entry-of : (v : ℕ) (f : ℕ → ℕ → ℕ) (i j : ℕ) → v ≤ 50 → i < v → j < v → entry (tableOf v f) i j ≡ f i j
+unfolding tableOf
+entry-of v f i j h hi hj =
+    ap (λ (row : List ℕ). getD row j 0) (getD-over v (λ i. over v (f i) (replicate 50 0)) (replicate 50 (replicate 50 0)) [] i hi h)
+    ∙ getD-over v (f i) (replicate 50 0) 0 j hj h
+
+module _ (h : Head) (d : List ℕ) (s : Sound h d) where
+  same : (f : ℕ → ℕ → ℕ) (i j : ℕ) → i < objects h → j < i → eqb (entry (tableOf (objects h) f) i j) (entry (tableOf (objects h) f) 1 0) ≡ eqb (f i j) (f 1 0)
+  same f i j l m =
+      let fit = s .sizes in
+      ap₂ eqb (entry-of (objects h) f i j (omega arith) l (omega arith)) (entry-of (objects h) f 1 0 (omega arith) (omega arith) (omega arith))
+
+  -- the test over the two tables of a sound design is the test of balance
+  pub tables-balanced : tablesEven (tableOf (objects h) (company h d)) (tableOf (objects h) (opposition h d)) (objects h) ≡ balanced h d
+  unfolding tablesEven balanced
+  tables-balanced = all-cong (objects h) _ _ (λ i l. all-cong i _ _ (λ j m. ap₂ _&&_ (same (company h d) i j l m) (same (opposition h d) i j l m)))
+
+-- ---- an accepted block list, by its developed words and the two tables that are counted in them
+module _ (h : Head) (d : List ℕ) (e : designVerdict h d ≡ accepted) {ws : List ℕ} (w : ws ≡ over (2 * blocks h) (wordAt h d) (replicate 2600 0)) where
+  -- the ones of the first word are the size of a side
+  pub side-size : sumℕ 64 (bit (getD ws 0 0)) ≡ h .p
+  side-size =
+      let s = sound h d e in
+      let fit = s .sizes in
+      let some : 1 ≤ h .n = omega arith in
+      let first : 0 < blocks h = mul-le-mul (fit .m-least) some in
+      ap (λ (x : ℕ). sumℕ 64 (bit x)) (left-word h d s ws w 0 first)
+      ∙ ones-word (left h d 0) (λ x. omega (arith, block-once h d s 0 first x)) (λ k l. omega (arith, left-objects h d s 0 first k l))
+      ∙ left-length h d s 0 first
+
+  module _ {c o : List (List ℕ)} (p : c ≡ tableOf (objects h) (tally false ws (blocks h))) (q : o ≡ tableOf (objects h) (tally true ws (blocks h))) where
+    company-is : c ≡ tableOf (objects h) (company h d)
+    company-is = p ∙ ap (tableOf (objects h)) (company-counted h d (sound h d e) ws w)
+
+    opposition-is : o ≡ tableOf (objects h) (opposition h d)
+    opposition-is = q ∙ ap (tableOf (objects h)) (opposition-counted h d (sound h d e) ws w)
+
+    -- the test over them is the test of balance
+    pub tables-tell : tablesEven c o (objects h) ≡ balanced h d
+    tables-tell = ap₂ (λ (x y : List (List ℕ)). tablesEven x y (objects h)) company-is opposition-is ∙ tables-balanced h d (sound h d e)
+
+    -- the company of the objects 1 and 0
+    pub company-first : entry c 1 0 ≡ company h d 1 0
+    company-first =
+        let fit = sound h d e .sizes in
+        ap (λ (t : List (List ℕ)). entry t 1 0) company-is ∙ entry-of (objects h) (company h d) 1 0 (omega arith) (omega arith) (omega arith)
+
+    -- their opposition
+    pub opposition-first : entry o 1 0 ≡ opposition h d 1 0
+    opposition-first =
+        let fit = sound h d e .sizes in
+        ap (λ (t : List (List ℕ)). entry t 1 0) opposition-is ∙ entry-of (objects h) (opposition h d) 1 0 (omega arith) (omega arith) (omega arith)
+
+    -- it is small
+    pub opposition-most : entry o 1 0 ≤ 2600
+    opposition-most =
+        let fit = sound h d e .sizes in
+        let is : entry o 1 0 ≡ tally true ws (blocks h) 1 0 = ap (λ (t : List (List ℕ)). entry t 1 0) q ∙ entry-of (objects h) (tally true ws (blocks h)) 1 0 (omega arith) (omega arith) (omega arith) in
+        omega (arith, is, tally-most true ws 1 0 (blocks h))
+
+-- ---- the answers
+
+-- the judgement over two tables that fail the test
+pub tables-refused : (v b p : ℕ) (c o : List (List ℕ)) {j : Judged} → tablesEven c o v ≡ false → j ≡ record { verdict = refused 6 0; parameters = noParameters } → j ≡ tablesJudged v b p c o
+unfolding tablesJudged
+tables-refused v b p c o f is = rw f is
+
+-- over two that pass it, from each parameter
+pub tables-accepted : (v b p : ℕ) (c o : List (List ℕ)) (v′ b′ r′ p′ l1′ l2′ : ℕ) → tablesEven c o v ≡ true
+    → v′ ≡ v → b′ ≡ b → r′ ≡ (entry o 1 0 - entry c 1 0) * (v - 1) → p′ ≡ p → l1′ ≡ entry c 1 0 → l2′ ≡ entry o 1 0
+    → _≡_ {A = Judged} (record { verdict = accepted; parameters = record { v = v′; b = b′; r = r′; p = p′; l1 = l1′; l2 = l2′ } }) (tablesJudged v b p c o)
+unfolding tablesJudged
+tables-accepted v b p c o v′ b′ r′ p′ l1′ l2′ f ev eb er ep e1 e2 = rw (f, ev, eb, er, ep, e1, e2)
+
+-- the block list is refused
+pub judged-refused : (h : Head) (d : List ℕ) (number at : ℕ) {r : Judged} → designVerdict h d ≡ refused number at → r ≡ record { verdict = refused number at; parameters = noParameters } → r ≡ judged h d
+unfolding judgeVerdict
+judged-refused h d number at e is = rw e is
+
+-- it is accepted: the judgement is that over the two tables
+pub judged-accepted : (h : Head) (d : List ℕ) (p : ℕ) (c o : List (List ℕ)) → designVerdict h d ≡ accepted → tablesEven c o (objects h) ≡ balanced h d
+    → p ≡ h .p → entry c 1 0 ≡ company h d 1 0 → entry o 1 0 ≡ opposition h d 1 0 → tablesJudged (objects h) (blocks h) p c o ≡ judged h d
+unfolding judgeVerdict tablesJudged beta
+judged-accepted h d p c o e f ep e1 e2 = rw (e, f, ep, e1, e2)

@@ -1,0 +1,2 @@
+-- What the private functions count and test.
+pub mod Tables

@@ -74,6 +74,7 @@ module _ (h : Head) (d : List ℕ) {verdict : Verdict} (e : verdict ≡ developV
   develop-words a w = w ∙ ap (λ (v : Verdict). wordsUnder v h d (replicate 2600 0)) (sym e ∙ a)
 
 module _ (h : Head) (d : List ℕ) (s : Sound h d) (ws : List ℕ) (e : ws ≡ over (2 * blocks h) (wordAt h d) (replicate 2600 0)) where
+  -- a word that was written
   at-word : (c : ℕ) → c < 2 * blocks h → getD ws c 0 ≡ wordAt h d c
   at-word c l = ap (λ (t : List ℕ). getD t c 0) e ∙ getD-over (2 * blocks h) (wordAt h d) (replicate 2600 0) 0 c l (let f = s .sizes in omega arith)
 
@@ -93,16 +94,20 @@ module _ (h : Head) (d : List ℕ) (s : Sound h d) (ws : List ℕ) (e : ws ≡ o
       let r : (2 * k + 1) % 2 ≡ 1 = omega arith in
       at-word (2 * k + 1) (omega arith) ∙ rw (q, r)
 
+  -- no object stands twice on the left
   left-once : (k : ℕ) → k < blocks h → (x : ℕ) → occ x (left h d k) ≤ 1
   left-once k l x = omega (arith, block-once h d s k l x)
 
+  -- nor on the right
   right-once : (k : ℕ) → k < blocks h → (x : ℕ) → occ x (right h d k) ≤ 1
   right-once k l x = omega (arith, block-once h d s k l x)
 
+  -- what is counted on one side, for two objects
   tally-company : (i j : ℕ) → tally false ws (blocks h) i j ≡ company h d i j
   unfolding tally company
   tally-company i j = sumℕ-cong (blocks h) _ _ (λ k l. rw (left-word k l, right-word k l) (company-word (left h d k) (right h d k) (left-once k l) (right-once k l) i j))
 
+  -- what is counted on opposite sides, for two objects
   tally-opposition : (i j : ℕ) → tally true ws (blocks h) i j ≡ opposition h d i j
   unfolding tally opposition
   tally-opposition i j = sumℕ-cong (blocks h) _ _ (λ k l. rw (left-word k l, right-word k l) (opposition-word (left h d k) (right h d k) (left-once k l) (right-once k l) i j))

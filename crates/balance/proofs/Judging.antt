@@ -71,6 +71,7 @@ entry-of v f i j h hi hj =
     ∙ getD-over v (f i) (replicate 50 0) 0 j hj h
 
 module _ (h : Head) (d : List ℕ) (s : Sound h d) where
+  -- an entry is that of the objects 1 and 0 just where the counts are
   same : (f : ℕ → ℕ → ℕ) (i j : ℕ) → i < objects h → j < i → eqb (entry (tableOf (objects h) f) i j) (entry (tableOf (objects h) f) 1 0) ≡ eqb (f i j) (f 1 0)
   same f i j l m =
       let fit = s .sizes in

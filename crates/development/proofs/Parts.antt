@@ -42,6 +42,7 @@ pub word-none : (g : ℕ → ℕ) (xs : List ℕ) (k : ℕ) → k ≡ length xs 
 unfolding word
 word-none g xs k e = rw (e, drop-length)
 
+-- each object adds at most 2 ^ 50
 word-le : (g : ℕ → ℕ) → ((x : ℕ) → g x ≤ 50) → (xs : List ℕ) → word (map g xs) ≤ length xs * 2 ^ 50
 unfolding word
 word-le g h [] = omega arith
@@ -72,9 +73,11 @@ module _ (h : Head) (d : List ℕ) (j s : ℕ) (below : s < h .n) where
   block-is : (h .n * j + s) / h .n ≡ j
   block-is = ap (λ (k : ℕ). (k + s) / h .n) (mul-comm (h .n) j) ∙ digits-div j below
 
+  -- its shift
   shift-is : (h .n * j + s) % h .n ≡ s
   shift-is = ap (λ (k : ℕ). (k + s) % h .n) (mul-comm (h .n) j) ∙ digits-mod j below
 
+  -- word 2nj + 2s is the left of initial block j at the shift s
   left-at : word (map (moved h s) (take (h .p) (drop (2 * h .p * j) d))) ≡ wordAt h d (2 * h .n * j + 2 * s)
   unfolding wordAt left
   left-at =
@@ -83,6 +86,7 @@ module _ (h : Head) (d : List ℕ) (j s : ℕ) (below : s < h .n) where
       let r : (2 * h .n * j + 2 * s) % 2 ≡ 0 = omega arith in
       rw (q, r, block-is, shift-is)
 
+  -- the next word is its right
   right-at : word (map (moved h s) (take (h .p) (drop (2 * h .p * j + h .p) d))) ≡ wordAt h d (2 * h .n * j + (2 * s + 1))
   unfolding wordAt right
   right-at =

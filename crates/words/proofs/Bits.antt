@@ -18,6 +18,7 @@ use Rattle.algebra.specs.Ranges.{sumℕ}
 use Rattle.algebra.proofs.Sums.{sumℕ-cong, sumℕ-first}
 use Rattle.words.specs.Bits.{bit}
 
+-- 2 is above 0
 two-pos : 0 < 2
 two-pos = zero-lt-suc 1
 
@@ -52,6 +53,7 @@ bit-past (suc n) w (suc i) h l = bit-suc w i ∙ bit-past n (w / 2) i (half-lt n
 
 -- ---- the count of ones
 
+-- 0 has no ones
 ones-zero : ones 0 ≡ 0
 unfolding ones
 ones-zero = refl
@@ -76,9 +78,11 @@ ones-and w m =
     low : min (w % 2) (m % 2) < 2
     low = omega (arith, mod-lt w two-pos)
 
+-- half of a power of 2 is the power below
 pow-half : (i : ℕ) → 2 ^ suc i / 2 ≡ 2 ^ i
 pow-half i = rw pow-suc (mul-div-cancel (2 ^ i) two-pos)
 
+-- a power of 2 above 1 is even
 pow-even : (i : ℕ) → 2 ^ suc i % 2 ≡ 0
 pow-even i = rw pow-suc (mul-mod-left (2 ^ i) 2)
 
@@ -87,6 +91,7 @@ ones-one : (i w : ℕ) → ones (bitAnd w (2 ^ i)) ≡ bit w i
 ones-one zero w = ones-and w 1 ∙ rw (and-zero-r, ones-zero) (omega (arith, bit-zero w))
 ones-one (suc i) w = rw (ones-and, pow-half, pow-even, ones-one i (w / 2), bit-suc) (omega arith)
 
+-- the lowest place under a mask made of two, and the rest
 ones-and-or : (w a b : ℕ) → ones (bitAnd w (bitOr a b)) ≡ min (w % 2) (bitOr (a % 2) (b % 2)) + ones (bitAnd (w / 2) (bitOr (a / 2) (b / 2)))
 ones-and-or w a b = ones-and w (bitOr a b) ∙ ap₂ (λ (x y : ℕ). min (w % 2) x + ones (bitAnd (w / 2) y)) (or-mod a b 1) (or-shr a b 1)
 
@@ -98,13 +103,16 @@ ones-two (suc i) zero w h = rw (ones-and-or, pow-half, pow-even, or-zero-r, ones
 ones-two (suc i) (suc j) w h =
     rw (ones-and-or, pow-half i, pow-half j, pow-even i, pow-even j, ones-two i j (w / 2) (λ e. h (ap suc e)), bit-suc w i, bit-suc w j) (omega arith)
 
+-- the power of a place has the bit of that place
 bit-pow : (i : ℕ) → bit (2 ^ i) i ≡ 1
 bit-pow zero = refl
 bit-pow (suc i) = rw (bit-suc, pow-half) (bit-pow i)
 
+-- a bit of a mask made of two
 bit-or : (a b k : ℕ) → bit (bitOr a b) k ≡ bitOr (bit a k) (bit b k)
 bit-or a b k = ap (λ (x : ℕ). x % 2) (or-shr a b k) ∙ or-mod (a / 2 ^ k) (b / 2 ^ k) 1
 
+-- a bit that is 1 in one of two masks is 1 in both together
 or-one : (x : ℕ) → x ≤ 1 → bitOr 1 x ≡ 1
 or-one x h = omega arith
 
@@ -123,12 +131,14 @@ ones-pow i = ap ones (sym (and-self (2 ^ i))) ∙ ones-one i (2 ^ i) ∙ bit-pow
 
 -- ---- products of two bits
 
+-- two bits that are both 1
 product-full : (x y : ℕ) → x ≤ 1 → y ≤ 1 → x + y ≡ 2 → 1 ≡ x * y
 product-full x y hx hy e =
     let ex : x ≡ 1 = omega arith in
     let ey : y ≡ 1 = omega arith in
     rw (ex, ey)
 
+-- two bits of which one is 0
 product-part : (x y : ℕ) → x ≤ 1 → y ≤ 1 → (x + y ≡ 2 → ⊥) → 0 ≡ x * y
 product-part zero y hx hy e = sym (zero-mul y)
 product-part (suc zero) y hx hy e = omega (arith, e)
@@ -153,9 +163,11 @@ abbrev pairMask : ℕ → ℕ → ℕ
 pairMask i j = bitOr ((1 * 2 ^ i) % 2 ^ 64) ((1 * 2 ^ j) % 2 ^ 64)
 
 module _ (w i j : ℕ) (hi : i ≤ 63) (hj : j ≤ 63) where
+  -- under the mask of a pair of one place
   at-one : i ≡ j → (ones (bitAnd w (pairMask i j)) ≡ bit w i) × (ones (pairMask i j) ≡ 1)
   at-one q = rw (shl-one i hi, shl-one j hj, ← q, or-self) (ones-one i w, ones-pow i)
 
+  -- under the mask of a pair of two places
   at-two : (i ≡ j → ⊥) → (ones (bitAnd w (pairMask i j)) ≡ bit w i + bit w j) × (ones (pairMask i j) ≡ 2)
   at-two q = rw (shl-one i hi, shl-one j hj) (ones-two i j w q, ones-pair i j q)
 

@@ -28,12 +28,15 @@ use Rattle.words.proofs.Bits.{bit-zero, bit-suc, bit-none, ones-sum}
 abbrev once : ℕ → ℕ → ℕ
 once i x = cond (eqb i x) 1 0
 
+-- it is 1
 once-same : (i x : ℕ) → i ≡ x → once i x ≡ 1
 once-same i x e = ap (λ (t : Bool). cond t 1 0) (eq-eqb i x e)
 
+-- it is 0
 once-other : (i x : ℕ) → (i ≡ x → ⊥) → once i x ≡ 0
 once-other i x e = ap (λ (t : Bool). cond t 1 0) (ne-eqb i x e)
 
+-- the next numbers are the same just where these are
 once-suc : (i x : ℕ) → once (suc i) (suc x) ≡ once i x
 once-suc i x = by (ℕ-discrete i x)
   where

@@ -1,7 +1,6 @@
 -- `design::stands_among` meets its contract: what is asked of all the bytes is asked of those that are left. Assumes nothing.
-use Prim.Native.Nat.{_<_}
+use Prim.Native.Nat.{_<_, _-_, _≤_}
 use denote.Ref.{now}
-use Prim.Native.Nat.{_-_, _≤_}
 use mathlib.Core.Path.{_≡_, refl, sym, ap, _∙_}
 use lib.ListN.{length, drop}
 use lib.Dec.{ltb}

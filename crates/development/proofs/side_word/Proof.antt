@@ -1,12 +1,9 @@
 -- `development::side_word` meets its contract: the word so far and the word of the bytes left make the whole, which is below 2 ^ 55. Assumes nothing.
-use lib.ListN.{getD}
+use lib.ListN.{getD, length, drop}
 use denote.Ref.{now}
-use Prim.Native.Nat.{ℕ, _<_, _*_, _^_, _%_}
-use mathlib.Core.Path.{ap}
-use Prim.Native.Nat.{_+_, _-_, _≤_}
-use mathlib.Core.Path.{_≡_}
+use Prim.Native.Nat.{ℕ, _<_, _*_, _^_, _%_, _+_, _-_, _≤_}
+use mathlib.Core.Path.{ap, _≡_}
 use mathlib.Core.List.{map}
-use lib.ListN.{length, drop}
 use Rattle.meaning.specs.Design.{moved}
 use Rattle.meaning.specs.Calls.{word}
 use Rattle.development.proofs.Parts.{word-none, word-more, word-most, moved-most, bit-of}

@@ -1,0 +1,3 @@
+-- The laws of what is worked out from totals, and of an accepted job.
+pub mod Working
+pub mod Accepting

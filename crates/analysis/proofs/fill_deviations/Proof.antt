@@ -1,0 +1,88 @@
+-- `fill_deviations`: the first k entries are deviation numerators, and the later ones are as they were. Assumes nothing.
+use borrow.Author.Needs.{needs}
+use mathlib.Core.Path.{_≡_, refl, sym, ap, _∙_}
+use Prim.Native.Nat.{ℕ, _+_, _-_, _*_, _≤_, _<_}
+use native.Mathlib.Nat.{le-trans}
+use native.Mathlib.Omega.{arith}
+use denote.Ref.{now}
+use lib.Dec.{lit<}
+use lib.IntN.{ℤ, pos, natAbs}
+use lib.ListN.{length, length-set}
+use mir.Syntax.{w32, w64}
+use mir.Val.{SFits, toZ}
+use Rattle.algebra.specs.Buffers.{over}
+use Rattle.algebra.proofs.Filling.{over-none, over-step, over-end}
+use Rattle.algebra.proofs.Numbers.{Num, called, unsigned, widened, widened-fits, small-fits, minus, minus-fits, times, times-fits}
+use Rattle.meaning.specs.Analysis.{reading}
+use Rattle.analysis.specs.Worked.{deviationIn}
+use Rattle.analysis.proofs.Working.{fitted-small}
+use Rattle.analysis.proofs.fill_deviations.Statement.{statement}
+use Rattle.analysis.proofs.fill_deviations.Tie as tie
+
+abbrev Inv-loop : tie.InvT-loop
+Inv-loop words readings totals b v vbeta deviations₀ scale k₀ deviations k =
+    (k ≤ b) × (deviations ≡ over k (deviationIn words readings totals v vbeta) deviations₀) × (length deviations ≡ length deviations₀)
+
+abbrev μ-loop : tie.MeasureT-loop
+μ-loop words readings totals b v vbeta deviations₀ scale k₀ deviations k = b - k
+
+-- what a turn reads
+module _ (c : tie.After-y Inv-loop μ-loop) where
+  abbrev start : tie.Start Inv-loop μ-loop
+  start = c .before .before .before .before
+
+  abbrev k : ℕ
+  k = c .before .before .loop .k
+
+  abbrev element : ℤ
+  element = reading (now (start .args .readings)) k
+
+  fits : SFits w32 element
+  fits = record { sfits = c .y .given }
+
+  abbrev y : Num
+  y = widened element 200000 fits (start .pre .0 .readings-most k (omega arith))
+
+  abbrev scale : Num
+  scale = unsigned (start .args .vbeta) 2600 (start .pre .1 .1 .1) (lit< tt)
+
+  abbrev product : Num
+  product = times scale y (lit< tt)
+
+-- and what it computes
+module _ (c : tie.After-fitted Inv-loop μ-loop) where
+  abbrev fit : Num
+  fit = called (c .fitted .result) 13000000000 (c .fitted .ensures)
+      (le-trans (fitted-small _ _ _ (start (c .before) .args .v) _ (start (c .before) .pre .1 .0) (omega arith)) (omega (arith, start (c .before) .pre .1 .0 .few))) (lit< tt)
+
+  abbrev all : Num
+  all = minus (product (c .before)) fit (lit< tt)
+
+loop-again : tie.Need-loop-again Inv-loop μ-loop
+loop-again c =
+    let l = c .before .before .before .loop in
+    let s = start (c .before) in
+    let at : l .k < length (now (s .args .deviations)) = omega (arith, s .pre .1 .1 .0) in
+    (omega arith, over-step (l .k) _ _ (l .inv .1) (all c .reads) at, simp length-set (l .inv .2))
+
+pub fill-deviations-spec : {M : Type 1} → statement M
+fill-deviations-spec =
+    tie.close
+    (tie.spec
+    Inv-loop
+    μ-loop
+    (λ c. small-fits (pos (c .before .args .vbeta)) (c .before .pre .1 .1 .1) (lit< tt))
+    (λ c. (omega arith, over-none _ _, refl))
+    (λ c. omega arith)
+    (λ c. omega (arith, c .before .before .before .pre .0 .readings-long))
+    (λ c. widened-fits _ (fits c))
+    (λ c. times-fits (scale c) (y c) (lit< tt))
+    (λ c κs. (start c .pre .1 .0, omega (arith, start c .pre .0 .words-long)))
+    (λ c. minus-fits (product (c .before)) (fit c) (lit< tt))
+    (λ c. omega arith)
+    (λ c. omega (arith, start (c .before) .pre .1 .1 .0, c .before .before .before .loop .inv .2))
+    (λ c. omega arith)
+    (λ c. omega arith)
+    loop-again
+    (λ c. c .before .loop .inv .2)
+    (λ c. over-end _ _ (c .before .loop .inv .1) (omega arith)))

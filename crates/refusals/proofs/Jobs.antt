@@ -1,0 +1,87 @@
+-- A job's verdict, test by test. Assumes nothing.
+use mathlib.Core.Path.{_≡_, refl, sym, ap, _∙_, subst}
+use mathlib.Core.Bool.{Bool, true, false, _&&_}
+use mathlib.Core.List.{List}
+use Prim.Native.Nat.{ℕ, _+_, _*_, _/_, _^_, _≤_, _<_}
+use native.Mathlib.Nat.{div-lt-iff-lt-mul}
+use native.Mathlib.Omega.{arith}
+use borrow.Author.Tests.{lt-ltb, le-leb, ltb-true}
+use lib.Dec.{leb, ltb}
+use lib.Pow.{pow-pos}
+use lib.IntN.{ℤ, natAbs}
+use Rattle.algebra.proofs.Tests.{and-both}
+use Rattle.meaning.specs.declared.Head.{Head}
+use Rattle.meaning.specs.declared.Verdict.{Verdict}
+use Rattle.meaning.specs.declared.Judged.{Judged}
+use Rattle.meaning.specs.Design.{objects}
+use Rattle.meaning.specs.Refusals.{_⨾_, accepted, refused, sumLimit, clean, inBalance, restraint, inReach}
+use Rattle.meaning.specs.Calls.{given, slices, contents, jobVerdict, judgeVerdict, designVerdict, judged}
+use Rattle.laws.proofs.Chains.{Restraint, restrains, held, test-yes, test-no, accepts, goes-on, refused-stays}
+use Rattle.readings.proofs.Answers.{design-clean}
+use Rattle.refusals.specs.Judgement.{judgedUnder, noJudgement}
+
+-- ---- the restraint
+
+-- a set with no bit at v or above
+pub inside : (v w : ℕ) → w / 2 ^ v ≡ 0 → w < 2 ^ v
+inside v w e =
+    let low : w < 1 * 2 ^ v = div-lt-iff-lt-mul (pow-pos v) .0 (omega arith) in
+    omega arith
+
+-- the shift of such a set is 0
+pub shifted : (v w : ℕ) → w < 2 ^ v → w / 2 ^ v ≡ 0
+shifted v w h =
+    let wide : w < 1 * 2 ^ v = omega arith in
+    let low : w / 2 ^ v < 1 = div-lt-iff-lt-mul (pow-pos v) .1 wide in
+    omega arith
+
+-- a restraint that is in order is accepted
+pub restrained-yes : (h : Head) (w : ℕ) (M : ℤ) → Restraint h w M → restraint h w M ≡ accepted
+restrained-yes h w M r = test-yes (ltb 0 w && ltb w (2 ^ objects h) && leb (natAbs M) sumLimit) 7 0
+    (and-both (and-both (lt-ltb _ _ (r .set-some)) (lt-ltb _ _ (r .set-inside))) (le-leb _ _ (r .sum-most)))
+
+-- one that cannot be in order is refused
+pub restrained-no : (h : Head) (w : ℕ) (M : ℤ) → (Restraint h w M → ⊥) → restraint h w M ≡ refused 7 0
+restrained-no h w M n = by (ltb 0 w && ltb w (2 ^ objects h) && leb (natAbs M) sumLimit) refl
+  where
+    by : (t : Bool) → ltb 0 w && ltb w (2 ^ objects h) && leb (natAbs M) sumLimit ≡ t → restraint h w M ≡ refused 7 0
+    by true e = absurd (n (restrains h w M (test-yes _ 7 0 e)))
+    by false e = test-no _ 7 0 e
+
+-- ---- the whole job
+
+module _ (h : Head) (d : List ℕ) (y : List ℤ) (w : ℕ) (M : ℤ) where
+  -- the sizes or a length is refused
+  pub job-slices : (k at : ℕ) → slices h d y ≡ refused k at → jobVerdict h d y w M ≡ refused k at
+  unfolding jobVerdict
+  job-slices k at e = refused-stays _ k at e
+
+  module _ (s : slices h d y ≡ accepted) where
+    -- past the lengths, the judgement comes to the bytes and to balance
+    pub judge-contents : judgeVerdict h d ≡ clean h d ⨾ inBalance h d
+    unfolding judgeVerdict
+    judge-contents = ap (λ (v : Verdict). v ⨾ inBalance h d) (design-clean h d y s)
+
+    -- the design is refused
+    pub job-design : (k at : ℕ) → judgeVerdict h d ≡ refused k at → jobVerdict h d y w M ≡ refused k at
+    unfolding jobVerdict contents
+    job-design k at e = goes-on _ s ∙ refused-stays _ k at (refused-stays _ k at (sym judge-contents ∙ e))
+
+    module _ (j : judgeVerdict h d ≡ accepted) where
+      -- the restraint is refused
+      pub job-restraint : (k at : ℕ) → restraint h w M ≡ refused k at → jobVerdict h d y w M ≡ refused k at
+      unfolding jobVerdict contents
+      job-restraint k at e = goes-on _ s ∙ refused-stays _ k at (goes-on _ (sym judge-contents ∙ j) ∙ e)
+
+      -- the readings decide
+      pub job-reach : restraint h w M ≡ accepted → jobVerdict h d y w M ≡ inReach y
+      unfolding jobVerdict contents
+      job-reach e = goes-on _ s ∙ goes-on _ (accepts (sym judge-contents ∙ j) e)
+
+  -- a refusal has no parameters
+  pub no-judgement-is : (k at : ℕ) → jobVerdict h d y w M ≡ refused k at → noJudgement (refused k at) ≡ judgedUnder (jobVerdict h d y w M) h d
+  no-judgement-is k at e = sym (ap (λ (v : Verdict). judgedUnder v h d) e)
+
+  -- an acceptance has those of the design
+  pub judgement-is : judgeVerdict h d ≡ accepted → jobVerdict h d y w M ≡ accepted → judged h d ≡ judgedUnder (jobVerdict h d y w M) h d
+  judgement-is j e = ap (λ (v : Verdict). judgedUnder v h d) (j ∙ sym e)

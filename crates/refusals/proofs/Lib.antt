@@ -1,0 +1,2 @@
+-- The laws of a job's verdict, one a way out.
+pub mod Jobs

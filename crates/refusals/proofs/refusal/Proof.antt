@@ -1,0 +1,13 @@
+-- `refusal`: the verdict of the judgement. Assumes nothing.
+use borrow.Author.Needs.{needs}
+use mathlib.Core.Path.{ap}
+use mir.Facts.{toZ-ofZ}
+use Rattle.meaning.specs.declared.Judged.{Judged}
+use Rattle.refusals.proofs.refusal.Statement.{statement}
+use Rattle.refusals.proofs.refusal.Tie as tie
+
+returns : tie.Need-returns
+returns c = ap (λ (r : Judged). r .verdict) (rw (toZ-ofZ (c .before .before .fits .sum)) at (c .judged-job .ensures))
+
+pub refusal-spec : {M : Type 1} → statement M
+refusal-spec = tie.close (tie.spec (λ c κs. search needs) returns)

@@ -1,0 +1,2 @@
+-- What the judgement of a job is.
+pub mod Judgement

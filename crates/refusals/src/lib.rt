@@ -1,0 +1,81 @@
+// The tests of a whole job, in the request's order: the design is judged once, and the judgement handed on.
+use balance::judge;
+use meaning::Head;
+use meaning::Judged;
+use meaning::Parameters;
+use meaning::Verdict;
+use readings::reach_refusal;
+use readings::slices_refusal;
+ghost use mathlib.Core.Path.{_≡_};
+ghost use Rattle.laws.specs.Fits.{Fits};
+ghost use Rattle.meaning.specs.Refusals.{refused, restraint};
+ghost use Rattle.meaning.specs.Calls.{jobVerdict};
+ghost use Rattle.refusals.specs.Judgement.{judgedUnder, noJudgement};
+
+// Why a whole job is refused, or that it is accepted: 4 to 8, with no room.
+pub fn refusal(head: Head, blocks: &[u8], readings: &[i32], set: u64, sum: i64) -> Verdict
+    ensures { λ r. ⌜ r ≡ jobVerdict head (now (blocks .entry)) (now (readings .entry)) set sum ⌝ }
+{
+    let judged = judged_job(head, blocks, readings, set, sum);
+    judged.verdict
+}
+
+// The verdict on a whole job, with the parameters of its design where it is accepted.
+pub fn judged_job(head: Head, blocks: &[u8], readings: &[i32], set: u64, sum: i64) -> Judged
+    ensures { λ r. ⌜ r ≡ judgedUnder (jobVerdict head (now (blocks .entry)) (now (readings .entry)) set sum) head (now (blocks .entry)) ⌝ }
+{
+    if let Verdict::Refused(number, at) = slices_refusal(head, blocks, readings) {
+        return no_judgement(number, at);
+    }
+    let judged = judge(head, blocks);
+    let verdict = judged.verdict;
+    if let Verdict::Refused(number, at) = verdict {
+        return no_judgement(number, at);
+    }
+    if let Verdict::Refused(number, at) = restraint_refusal(head, set, sum) {
+        return no_judgement(number, at);
+    }
+    if let Verdict::Refused(number, at) = reach_refusal(readings) {
+        return no_judgement(number, at);
+    }
+    judged
+}
+
+// The restraint set is not empty and has no bit at v or above, and the sum is in its range.
+fn restraint_refusal(head: Head, set: u64, sum: i64) -> Verdict
+    requires { ⌜ Fits head ⌝ }
+    ensures { λ r. ⌜ r ≡ restraint head set sum ⌝ }
+{
+    let v = head.n + head.flag;
+    if set == 0 {
+        return Verdict::Refused(7, 0);
+    }
+    if set >> v != 0 {
+        return Verdict::Refused(7, 0);
+    }
+    if sum < -1000000000 {
+        return Verdict::Refused(7, 0);
+    }
+    if 1000000000 < sum {
+        return Verdict::Refused(7, 0);
+    }
+    Verdict::Accepted
+}
+
+// What a refused job's judgement is.
+fn no_judgement(number: u8, at: usize) -> Judged
+    ensures { λ r. ⌜ r ≡ noJudgement (refused number at) ⌝ }
+{
+    let parameters = Parameters {
+        v: 0,
+        b: 0,
+        r: 0,
+        p: 0,
+        l1: 0,
+        l2: 0,
+    };
+    Judged {
+        verdict: Verdict::Refused(number, at),
+        parameters,
+    }
+}

@@ -1,0 +1,145 @@
+-- Totals over words: how a loop builds one, how large it is, and that over the words of a sound design it is the total of the definition.
+--     total-more, total-small, total-most     over any words
+--     laid                                    what the words of an accepted design are to its readings
+--     laid-totals, laid-squares               what a room that was filled with the totals holds
+-- Assumes nothing.
+use mathlib.Core.Path.{_≡_, refl, sym, ap, ap₂, _∙_, subst}
+use mathlib.Core.List.{List}
+use Prim.Native.Nat.{ℕ, _+_, _*_, _/_, _%_, _≤_, _<_}
+use native.Mathlib.Nat.{le-trans, le-of-eq}
+use native.Mathlib.Omega.{arith}
+use borrow.Author.Tests.{eq-eqb, ne-eqb, le-leb, lt-leb}
+use lib.Dec.{leb}
+use lib.ListN.{getD, length}
+use lib.IntN.{ℤ, pos, natAbs, _+ℤ_, _-ℤ_, _*ℤ_}
+use Rattle.algebra.specs.Ranges.{sum, sumℕ}
+use Rattle.algebra.specs.Buffers.{over}
+use Rattle.algebra.proofs.Filling.{over-ext, length-over, getD-over}
+use Rattle.algebra.proofs.Sums.{sum-none, sum-more, sum-cong, sumℕ-cong}
+use Rattle.algebra.proofs.Bounds.{abs-between, abs-*-le, abs-sum, sum-squares}
+use Rattle.meaning.specs.declared.Head.{Head}
+use Rattle.meaning.specs.declared.Verdict.{Verdict}
+use Rattle.meaning.specs.declared.Verdict.the-variants.{Accepted, Refused}
+use Rattle.meaning.specs.Design.{objects, blocks, left, right}
+use Rattle.meaning.specs.Analysis.{reading, sign, total, squaredTotals}
+use Rattle.meaning.specs.Refusals.{_⨾_, accepted, refused, clean, inReach, room}
+use Rattle.meaning.specs.Calls.{word, wordAt, slices, developVerdict, squaredTotalsVerdict}
+use Rattle.laws.specs.Fits.{Fits}
+use Rattle.laws.proofs.Chains.{Sound, Readings, opened, accepts, goes-on, refused-stays, test-yes, test-no, sound-accepted, sliced, slices-sound, slices-readings}
+use Rattle.laws.proofs.Clean.{block-once}
+use Rattle.words.specs.Bits.{bit}
+use Rattle.words.proofs.Bits.{bit-most}
+use Rattle.words.proofs.Sides.{bit-word}
+use Rattle.readings.proofs.Squares.{squares}
+use Rattle.totals.specs.Verdicts.{totalsVerdict}
+use Rattle.totals.specs.Developed.{signIn, totalIn, Weighed}
+
+-- ---- over any words
+
+-- a sign is at most 1 in size
+pub sign-most : (words : List ℕ) (k i : ℕ) → natAbs (signIn words k i) ≤ 1
+sign-most words k i = abs-between (bit (getD words (2 * k) 0) i) (bit (getD words (2 * k + 1) 0) i) 1 (bit-most _ i) (bit-most _ i)
+
+module _ (words : List ℕ) (y : List ℤ) where
+  -- of no block it is 0
+  pub total-none : (i : ℕ) → pos 0 ≡ totalIn words y 0 i
+  unfolding totalIn
+  total-none i = sum-none _
+
+  -- one block more
+  pub total-more : (k i : ℕ) → totalIn words y (k + 1) i ≡ totalIn words y k i +ℤ signIn words k i *ℤ reading y k
+  unfolding totalIn
+  total-more k i = sum-more k _
+
+  -- each block adds at most a reading
+  pub total-small : (k b i : ℕ) → Weighed words y b → k ≤ b → natAbs (totalIn words y k i) ≤ k * 200000
+  unfolding totalIn
+  total-small k b i w l =
+      abs-sum k 200000 (λ j. signIn words j i *ℤ reading y j)
+      (λ j m. le-trans (abs-*-le (signIn words j i) (reading y j) 1 200000 (sign-most words j i) (w .readings-most j (omega arith))) (omega arith))
+
+  -- so a total is at most 260,000,000 in size
+  pub total-most : (b i : ℕ) → Weighed words y b → natAbs (totalIn words y b i) ≤ 260000000
+  total-most b i w = omega (arith, total-small b b i w (omega arith), w .blocks-most)
+
+-- ---- over the words of a sound design
+
+-- the words hold the development of the design
+pub record Developed (h : Head) (d : List ℕ) (words : List ℕ) : Type 0 where
+  pub at : (c : ℕ) → c < 2 * blocks h → getD words c 0 ≡ wordAt h d c
+
+module _ (h : Head) (d : List ℕ) (words : List ℕ) (s : Sound h d) (w : Developed h d words) where
+  left-word : (k : ℕ) → k < blocks h → getD words (2 * k) 0 ≡ word (left h d k)
+  unfolding wordAt
+  left-word k l =
+      let even : 2 * k % 2 ≡ 0 = omega arith in
+      let half : 2 * k / 2 ≡ k = omega arith in
+      w .at (2 * k) (omega arith) ∙ rw (eq-eqb (2 * k % 2) 0 even, half)
+
+  right-word : (k : ℕ) → k < blocks h → getD words (2 * k + 1) 0 ≡ word (right h d k)
+  unfolding wordAt
+  right-word k l =
+      let half : (2 * k + 1) / 2 ≡ k = omega arith in
+      w .at (2 * k + 1) (omega arith) ∙ rw (ne-eqb ((2 * k + 1) % 2) 0 (λ e. omega arith), half)
+
+  -- a sign in the words is the sign of the definition
+  pub sign-is : (k i : ℕ) → k < blocks h → signIn words k i ≡ sign h d k i
+  sign-is k i l =
+      ap₂ (λ (a b : ℕ). pos a -ℤ pos b)
+      (ap (λ (x : ℕ). bit x i) (left-word k l) ∙ bit-word (left h d k) (λ x. omega (arith, block-once h d s k l x)) i)
+      (ap (λ (x : ℕ). bit x i) (right-word k l) ∙ bit-word (right h d k) (λ x. omega (arith, block-once h d s k l x)) i)
+
+  -- and a total is the total
+  pub total-is : (y : List ℤ) (i : ℕ) → totalIn words y (blocks h) i ≡ total h d y i
+  unfolding totalIn total
+  total-is y i = sum-cong (blocks h) _ _ (λ k l. ap (λ (x : ℤ). x *ℤ reading y k) (sign-is k i l))
+
+-- ---- the words of an accepted design and its readings
+
+-- room for all words is all that a sound design's development still asks
+pub develop-accepts : (h : Head) (d : List ℕ) (len : ℕ) → Sound h d → 2 * blocks h ≤ len → developVerdict h d len ≡ accepted
+unfolding developVerdict
+develop-accepts h d len s l = accepts (sound-accepted h d s) (test-yes (leb (2 * blocks h) len) 10 0 (le-leb _ _ l))
+
+-- the words hold the development, and the readings are in their range
+pub record Laid (h : Head) (d : List ℕ) (y : List ℤ) (words : List ℕ) : Type 0 where
+  pub weighed : Weighed words y (blocks h)
+  pub signs : (k i : ℕ) → k < blocks h → signIn words k i ≡ sign h d k i
+  pub totals : (i : ℕ) → totalIn words y (blocks h) i ≡ total h d y i
+
+-- words that were written over by the development are so
+pub laid : (h : Head) (d : List ℕ) (y : List ℤ) (l words : List ℕ) → Sound h d → Readings h y → 2 * blocks h ≤ length l → words ≡ over (2 * blocks h) (wordAt h d) l → Laid h d y words
+laid h d y l words s r m e = record {
+  weighed = record {
+    blocks-most = s .sizes .blocks-most;
+    words-long = subst (λ (x : List ℕ). 2 * blocks h ≤ length x) (sym e) (omega (arith, length-over (2 * blocks h) (wordAt h d) l));
+    readings-long = le-of-eq (sym (r .readings-long));
+    readings-most = r .readings-most;
+  };
+  signs = sign-is h d words s at;
+  totals = total-is h d words s at y;
+}
+  where
+    at : Developed h d words
+    at = record { at = λ c b. ap (λ (x : List ℕ). getD x c 0) e ∙ getD-over (2 * blocks h) (wordAt h d) l 0 c b m }
+
+-- a room that was filled with the totals over such words holds the totals
+pub laid-totals : (h : Head) (d : List ℕ) (y : List ℤ) (words : List ℕ) (room totals : List ℤ) → Laid h d y words →
+    totals ≡ over (objects h) (totalIn words y (blocks h)) room → totals ≡ over (objects h) (total h d y) room
+laid-totals h d y words room totals l e = e ∙ over-ext (objects h) _ _ room (λ i m. l .totals i)
+
+-- each at most 260,000,000 in size
+pub laid-most : (h : Head) (d : List ℕ) (y : List ℤ) (words : List ℕ) (room totals : List ℤ) → Laid h d y words → objects h ≤ length room →
+    totals ≡ over (objects h) (total h d y) room → (i : ℕ) → i < objects h → natAbs (getD totals i (pos 0)) ≤ 260000000
+laid-most h d y words room totals l m e i b =
+    subst (λ (z : ℤ). natAbs z ≤ 260000000)
+    (sym (ap (λ (x : List ℤ). getD x i (pos 0)) e ∙ getD-over (objects h) (total h d y) room (pos 0) i b m ∙ sym (l .totals i)))
+    (total-most words y (blocks h) i (l .weighed))
+
+-- and their squares add to the squared totals
+pub laid-squares : (h : Head) (d : List ℕ) (y : List ℤ) (room totals : List ℤ) → objects h ≤ length room →
+    totals ≡ over (objects h) (total h d y) room → squares totals (objects h) ≡ natAbs (squaredTotals h d y)
+unfolding squaredTotals
+laid-squares h d y room totals m e =
+    sumℕ-cong (objects h) _ _ (λ i b. ap (λ (z : ℤ). natAbs z * natAbs z) (ap (λ (x : List ℤ). getD x i (pos 0)) e ∙ getD-over (objects h) (total h d y) room (pos 0) i b m))
+    ∙ sym (ap natAbs (sum-squares (objects h) (total h d y)))

@@ -1,0 +1,3 @@
+-- The laws of totals over words, and of the verdicts of totals.
+pub mod Developing
+pub mod Refusing

@@ -1,2 +1,3 @@
 -- The laws of a job's verdict, one a way out.
 pub mod Jobs
+pub mod Determined

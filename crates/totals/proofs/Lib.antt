@@ -1,3 +1,4 @@
 -- The laws of totals over words, and of the verdicts of totals.
 pub mod Developing
 pub mod Refusing
+pub mod Determined

@@ -1,0 +1,59 @@
+-- The verdict of the fields, by the first test that refuses, or by none. Assumes nothing.
+use Prim.Native.Nat.{ℕ, _+_, _-_, _*_}
+use mathlib.Core.Path.{_≡_}
+use mathlib.Core.List.{List}
+use native.Mathlib.Omega.{arith}
+use borrow.Author.Tests.{eq-eqb, ne-eqb}
+use lib.ListN.{length}
+use Rattle.meaning.specs.Design.{blocks, listLength}
+use Rattle.meaning.specs.Refusals.{accepted, refused, _⨾_, sizes}
+use Rattle.meaning.specs.File.{fieldVerdict, headOf, secondAt, thirdAt, fourthAt, endAt, fields}
+
+-- where the third field starts tells the rest
+module _ (s : List ℕ) (third : ℕ) (starts : third ≡ thirdAt s) where
+  -- the length of the second
+  pub second-field : fieldVerdict s 7 2 (third - 10) ≡ fieldVerdict s secondAt 2 (listLength (headOf s))
+  second-field = let len : third - 10 ≡ listLength (headOf s) = omega (arith, starts) in rw len
+
+  -- the third
+  pub third-field : fieldVerdict s third 3 16 ≡ fieldVerdict s (thirdAt s) 3 16
+  third-field = rw starts
+
+  -- the place of the fourth
+  pub fourth-field : (b : ℕ) → b ≡ blocks (headOf s) → fieldVerdict s (third + 19) 4 (4 * b) ≡ fieldVerdict s (fourthAt s) 4 (4 * blocks (headOf s))
+  fourth-field b count = let at : third + 19 ≡ fourthAt s = omega (arith, starts) in rw (at, count)
+
+module _ (s : List ℕ) where
+  -- the first field, or the sizes that it tells
+  pub head-refuses : (k at : ℕ) → fieldVerdict s 0 1 4 ⨾ sizes (headOf s) ≡ refused k at → fields s ≡ refused k at
+  unfolding fields
+  head-refuses k at e = rw e
+
+  module _ (first : fieldVerdict s 0 1 4 ⨾ sizes (headOf s) ≡ accepted) where
+    -- the second field
+    pub second-refuses : (k at : ℕ) → fieldVerdict s secondAt 2 (listLength (headOf s)) ≡ refused k at → fields s ≡ refused k at
+    unfolding fields
+    second-refuses k at e = rw (first, e)
+
+    module _ (second : fieldVerdict s secondAt 2 (listLength (headOf s)) ≡ accepted) where
+      -- the third
+      pub third-refuses : (k at : ℕ) → fieldVerdict s (thirdAt s) 3 16 ≡ refused k at → fields s ≡ refused k at
+      unfolding fields
+      third-refuses k at e = rw (first, second, e)
+
+      module _ (third : fieldVerdict s (thirdAt s) 3 16 ≡ accepted) where
+        -- the fourth
+        pub fourth-refuses : (k at : ℕ) → fieldVerdict s (fourthAt s) 4 (4 * blocks (headOf s)) ≡ refused k at → fields s ≡ refused k at
+        unfolding fields
+        fourth-refuses k at e = rw (first, second, third, e)
+
+        module _ (fourth : fieldVerdict s (fourthAt s) 4 (4 * blocks (headOf s)) ≡ accepted) where
+          -- bytes after it
+          pub more-refuses : (endAt s ≡ length s → ⊥) → fields s ≡ refused 9 (endAt s)
+          unfolding fields
+          more-refuses h = rw (first, second, third, fourth, ne-eqb (endAt s) (length s) h)
+
+          -- none
+          pub fields-accept : endAt s ≡ length s → fields s ≡ accepted
+          unfolding fields
+          fields-accept h = rw (first, second, third, fourth, eq-eqb (endAt s) (length s) h)

@@ -1,0 +1,39 @@
+-- `job::head_refusal` meets its contract: each way out rewrites the chain by the tests that led there.
+-- Assumes nothing.
+use mathlib.Core.Path.{_≡_, sym, ap, _∙_}
+use borrow.Author.Tests.{not-true, not-false}
+use borrow.Author.Needs.{needs}
+use denote.Ref.{now}
+use Rattle.meaning.specs.Design.{sized}
+use Rattle.meaning.specs.Refusals.{accepted}
+use Rattle.meaning.specs.File.{fieldVerdict}
+use Rattle.job.proofs.head_refusal.Statement.{statement}
+use Rattle.job.proofs.head_refusal.Tie as tie
+
+-- past the first test the field is there
+passed : (c : tie.After-enum-told) → fieldVerdict (now (c .before .before .before .before .args .bytes)) 0 1 4 ≡ accepted
+passed c = sym (c .before .before .field-refusal .ensures) ∙ c .enum-told .given .1
+
+returns : tie.Need-returns
+returns c = rw (sym (c .before .before .before .field-refusal .ensures) ∙ c .before .number .given .1) (search needs)
+
+returns-2 : tie.Need-returns-2
+returns-2 c =
+    rw (passed (c .before .before .before), ← (c .before .before .head-of .ensures), sym (c .before .sized .ensures) ∙ not-true _ (c .if1 .taken)) (search needs)
+
+returns-3 : tie.Need-returns-3
+returns-3 c =
+    rw (passed (c .before .before .before), ← (c .before .before .head-of .ensures), sym (c .before .sized .ensures) ∙ not-false _ (c .if1 .left)) (search needs)
+
+pub head-refusal-spec : {M : Type 1} → statement M
+head-refusal-spec =
+    tie.close
+    (tie.spec
+    (λ c κs. search needs)
+    (λ c. search needs)
+    returns
+    (λ c. search needs)
+    (λ c κs. search needs)
+    (λ c κs. search needs)
+    returns-2
+    returns-3)

@@ -26,7 +26,7 @@ use Rattle.meaning.specs.Publishing.{spreadOf}
 use Rattle.meaning.specs.Refusals.{_⨾_, accepted, refused, sizes, lengthIs, clean, inBalance, restraint, inReach, room}
 use Rattle.meaning.specs.Calls.{given, slices, contents, jobVerdict, squaredReadingsVerdict, squaredTotalsVerdict, spreadingOf, rooms, analyseVerdict, solvedUnder}
 use Rattle.laws.specs.Fits.{Fits}
-use Rattle.laws.proofs.Chains.{Sound, Readings, Job, opened, held, accepts, goes-on, refused-stays, test-yes, test-no, job, sliced}
+use Rattle.laws.proofs.Chains.{Sound, Readings, Job, opened, held, accepts, goes-on, refused-stays, test-yes, test-no, accepted-last, job, sliced}
 use Rattle.laws.proofs.Counting.{Numbers, parameters}
 use Rattle.laws.proofs.Matrix.{difference-signs}
 use Rattle.laws.proofs.Analysis.{vbeta-some, q-nonneg}
@@ -207,3 +207,31 @@ module _ (h : Head) (d : List ℕ) (s : Sound h d) (b : balanced h d ≡ true) (
   -- beta is the difference of the two lambdas
   pub beta-is-less : (company h d 1 0 ≤ opposition h d 1 0) × (opposition h d 1 0 - company h d 1 0 ≡ beta h d)
   beta-is-less = (parameters h d s b .less, omega (arith, parameters h d s b .beta-is))
+
+-- ---- rooms that are always long enough
+
+module _ (h : Head) (f : Fits h) where
+  words-enough : room 2600 (2 * blocks h) ≡ accepted
+  words-enough = test-yes (leb (2 * blocks h) 2600) 10 0 (le-leb (2 * blocks h) 2600 (omega (arith, f .blocks-most)))
+
+  values-enough : room 50 (objects h) ≡ accepted
+  values-enough = test-yes (leb (objects h) 50) 10 0 (le-leb (objects h) 50 (f .objects-most))
+
+  deviations-enough : room 1300 (blocks h) ≡ accepted
+  deviations-enough = test-yes (leb (blocks h) 1300) 10 0 (le-leb (blocks h) 1300 (f .blocks-most))
+
+  -- with the other two long enough, the room for the values decides
+  pub rooms-values : (len : ℕ) → rooms h 2600 len 1300 ≡ room len (objects h)
+  unfolding rooms
+  rooms-values len =
+      ap (λ (v : Verdict). v ⨾ room 1300 (blocks h)) (goes-on (room len (objects h)) words-enough)
+      ∙ ap (λ (v : Verdict). room len (objects h) ⨾ v) deviations-enough ∙ accepted-last (room len (objects h))
+
+  -- or that for the deviations
+  pub rooms-deviations : (len : ℕ) → rooms h 2600 50 len ≡ room len (blocks h)
+  unfolding rooms
+  rooms-deviations len = goes-on (room len (blocks h)) (accepts words-enough values-enough)
+
+  -- or none
+  pub rooms-all : rooms h 2600 50 1300 ≡ accepted
+  rooms-all = rooms-deviations 1300 ∙ deviations-enough

@@ -1,0 +1,115 @@
+-- `deviation_of`: past its own tests the readings decide, and the block's numerator stands in the room. Assumes nothing.
+use borrow.Author.Needs.{needs}
+use mathlib.Core.Path.{_≡_, sym, ap, _∙_}
+use mathlib.Core.List.{List}
+use Prim.Native.Nat.{ℕ, _≤_, _<_}
+use native.Mathlib.Omega.{arith}
+use denote.Ref.{now}
+use lib.IntN.{ℤ, pos}
+use lib.ListN.{getD}
+use Rattle.algebra.proofs.Filling.{getD-over}
+use Rattle.algebra.proofs.Signs.{read-back}
+use Rattle.meaning.specs.declared.Head.{Head}
+use Rattle.meaning.specs.declared.Verdict.{Verdict}
+use Rattle.meaning.specs.declared.Spreading.{Spreading}
+use Rattle.meaning.specs.declared.Solved.{Solved}
+use Rattle.meaning.specs.Design.{blocks}
+use Rattle.meaning.specs.Analysis.{deviationOf, vbeta}
+use Rattle.meaning.specs.Refusals.{_⨾_, accepted, clean}
+use Rattle.meaning.specs.Calls.{slices, readingsVerdict, analyseVerdict, spreadingOf, noSpreading}
+use Rattle.laws.specs.Fits.{Fits}
+use Rattle.laws.proofs.Chains.{opened, sliced, given-yes}
+use Rattle.deviations.proofs.Refusing.{spread-verdict, deviation-refused, deviation-no-block, deviation-readings, no-deviation-is, deviation-is-given}
+use Rattle.deviations.proofs.deviation_of.Statement.{statement}
+use Rattle.deviations.proofs.deviation_of.Tie as tie
+
+-- past the tests of the blocks
+passed : (c : tie.After-enum-told) →
+    slices (c .before .before .before .before .args .head) (now (c .before .before .before .before .args .blocks)) (now (c .before .before .before .before .args .readings)) ⨾ clean (c .before .before .before .before .args .head) (now (c .before .before .before .before .args .blocks)) ≡ accepted
+passed c = sym (c .before .before .blocks-refusal .ensures) ∙ c .enum-told .given .1
+
+-- the sizes hold then
+fits : (c : tie.After-enum-told) → Fits (c .before .before .before .before .args .head)
+fits c = sliced _ _ _ (opened _ _ (passed c) .0) .sizes
+
+-- once the job is worked out
+module _ (c : tie.After-analyse) where
+  abbrev start : tie.Start
+  start = c .before .before .before .before .before .before .before .before .before .before
+
+  abbrev head : Head
+  head = start .args .head
+
+  abbrev bytes : List ℕ
+  bytes = now (start .args .blocks)
+
+  abbrev ys : List ℤ
+  ys = now (start .args .readings)
+
+  abbrev solved-under : Verdict
+  solved-under = analyseVerdict head bytes ys 1 (pos 0) 2600 50 1300
+
+  there : start .args .block < blocks head
+  there = omega (arith, c .before .before .before .before .if1 .left)
+
+  rooms : solved-under ≡ readingsVerdict head bytes ys
+  rooms = spread-verdict head bytes ys
+
+  solved-verdict : c .analyse .result .verdict ≡ readingsVerdict head bytes ys
+  solved-verdict = ap (λ (r : Solved). r .verdict) (c .analyse .ensures .0) ∙ rooms
+
+  module _ (e : readingsVerdict head bytes ys ≡ accepted) where
+    scale-is : c .analyse .result .spreading .vbeta ≡ vbeta head bytes
+    scale-is =
+        ap (λ (r : Solved). r .spreading .vbeta) (c .analyse .ensures .0)
+        ∙ ap (λ (p : Spreading). p .vbeta) (given-yes solved-under (spreadingOf head bytes ys) noSpreading (rooms ∙ e))
+
+    numerator-is : getD (c .analyse .last .1 .1 .1 .1 .1 .1 .1 .0) (start .args .block) (pos 0) ≡ deviationOf head bytes ys (start .args .block)
+    numerator-is =
+        ap (λ (l : List ℤ). getD l (start .args .block) (pos 0)) (c .analyse .ensures .1 .1 .1 ∙ given-yes solved-under _ _ (rooms ∙ e))
+        ∙ getD-over (blocks head) (deviationOf head bytes ys) _ (pos 0) (start .args .block) there (fits (c .before .before .before .before .before .before) .blocks-most)
+
+returns : tie.Need-returns
+returns c =
+    c .no-deviation .ensures
+    ∙ no-deviation-is _ _ _ _ _ _ (deviation-refused _ _ _ _ _ _ (sym (c .before .before .before .before .blocks-refusal .ensures) ∙ c .before .before .number .given .1))
+
+returns-2 : tie.Need-returns-2
+returns-2 c = c .no-deviation2 .ensures ∙ no-deviation-is _ _ _ _ _ _ (deviation-no-block _ _ _ _ (passed (c .before .before .before)) (search needs))
+
+returns-3 : tie.Need-returns-3
+returns-3 c =
+    let a = c .before .before .before .before .before .before .before in
+    c .no-deviation3 .ensures
+    ∙ no-deviation-is _ _ _ _ _ _ (deviation-readings _ _ _ _ (passed (c .before .before .before .before .before .before .before .before .before .before .before .before .before)) (there a) ∙ sym (solved-verdict a) ∙ c .before .before .verdict .given .1)
+
+returns-4 : tie.Need-returns-4
+returns-4 c =
+    let a = c .before .before .before .before .before .before in
+    let e = sym (solved-verdict a) ∙ c .before .enum-told2 .given .1 in
+    deviation-is-given _ _ _ _ _ _ (deviation-readings _ _ _ _ (passed (c .before .before .before .before .before .before .before .before .before .before .before .before)) (there a) ∙ e)
+    (read-back _ (c .numerator .given) ∙ numerator-is a e) (scale-is a e)
+
+pub deviation-of-spec : {M : Type 1} → statement M
+deviation-of-spec =
+    tie.close
+    (tie.spec
+    (λ c κs. search needs)
+    (λ c. search needs)
+    (λ c κs. search needs)
+    returns
+    (λ c. search needs)
+    (λ c. omega (arith, fits (c .before) .blocks-most))
+    (λ c κs. search needs)
+    returns-2
+    (λ c. search needs)
+    (λ c. search needs)
+    (λ c. search needs)
+    (λ c κs. search needs)
+    (λ c. search needs)
+    (λ c κs. search needs)
+    returns-3
+    (λ c. search needs)
+    (λ c. omega (arith, there (c .before .before .before .before .before), fits (c .before .before .before .before .before .before .before .before .before .before .before) .blocks-most))
+    (λ c. omega (arith, there (c .before .before .before .before .before), fits (c .before .before .before .before .before .before .before .before .before .before .before) .blocks-most))
+    returns-4)

@@ -1,0 +1,23 @@
+-- `deviations`: the job worked out in two local rooms and the lent one. Assumes nothing.
+use borrow.Author.Needs.{needs}
+use mathlib.Core.Path.{_≡_, ap, _∙_}
+use denote.Ref.{now}
+use lib.ListN.{length}
+use Rattle.meaning.specs.declared.Verdict.{Verdict}
+use Rattle.meaning.specs.declared.Solved.{Solved}
+use Rattle.meaning.specs.Calls.{deviationsUnder}
+use Rattle.deviations.proofs.Refusing.{deviations-verdict}
+use Rattle.deviations.proofs.deviations.Statement.{statement}
+use Rattle.deviations.proofs.deviations.Tie as tie
+
+returns : tie.Need-returns
+returns c =
+    let s = c .before .before .before .before .before .before .before .before in
+    let e = deviations-verdict (s .args .head) (now (s .args .blocks)) (now (s .args .readings)) (length (now (s .args .deviations))) in (
+      ap (λ (r : Solved). r .verdict) (c .before .before .before .analyse .ensures .0) ∙ e,
+      c .before .before .before .analyse .ensures .1 .1 .1
+          ∙ ap (λ (v : Verdict). deviationsUnder v (s .args .head) (now (s .args .blocks)) (now (s .args .readings)) (now (s .args .deviations))) e,
+    )
+
+pub deviations-spec : {M : Type 1} → statement M
+deviations-spec = tie.close (tie.spec (λ c. search needs) (λ c. search needs) (λ c κs. search needs) (λ c. search needs) returns)

@@ -1,0 +1,8 @@
+-- What a refused deviation is. Assumes nothing.
+use lib.IntN.{pos}
+use Rattle.meaning.specs.declared.Verdict.{Verdict}
+use Rattle.meaning.specs.declared.BlockDeviation.{BlockDeviation}
+
+-- a verdict with no deviation
+abbrev pub noDeviation : Verdict → BlockDeviation
+noDeviation verdict = record { verdict = verdict; numerator = pos 0; denominator = 0 }

@@ -1,0 +1,2 @@
+-- What a refused deviation is.
+pub mod Answers

@@ -1,0 +1,113 @@
+// Deviations, Q and spread of a job. They do not depend on the restraint, so any accepted one serves: object 0 with the sum 0.
+use analysis::analyse;
+use meaning::BlockDeviation;
+use meaning::Head;
+use meaning::JobSpread;
+use meaning::SquareSum;
+use meaning::Verdict;
+use readings::blocks_refusal;
+ghost use mathlib.Core.Path.{_≡_};
+ghost use lib.ListN.{length};
+ghost use Rattle.meaning.specs.Refusals.{refused};
+ghost use Rattle.meaning.specs.Calls.{deviationsVerdict, deviationsUnder, deviationAnswer, qAnswer, spreadAnswer};
+ghost use Rattle.deviations.specs.Answers.{noDeviation};
+
+// The deviation numerators of all blocks.
+pub fn deviations(head: Head, blocks: &[u8], readings: &[i32], deviations: &mut [i64]) -> Verdict
+    ensures { λ r. ⌜ r ≡ deviationsVerdict head (now (blocks .entry)) (now (readings .entry)) (length (now (deviations .entry))) ⌝ }
+    ensures { λ r. ⌜ now (deviations .exit) ≡ deviationsUnder (deviationsVerdict head (now (blocks .entry)) (now (readings .entry)) (length (now (deviations .entry)))) head (now (blocks .entry)) (now (readings .entry)) (now (deviations .entry)) ⌝ }
+{
+    let mut words = [0u64; 2600];
+    let mut values = [0i64; 50];
+    let solved = analyse(
+        head,
+        blocks,
+        readings,
+        1,
+        0,
+        &mut words,
+        &mut values,
+        deviations,
+    );
+    solved.verdict
+}
+
+// The deviation of one block: its numerator, over v·beta.
+pub fn deviation_of(head: Head, blocks: &[u8], readings: &[i32], block: usize) -> BlockDeviation
+    ensures { λ r. ⌜ r ≡ deviationAnswer head (now (blocks .entry)) (now (readings .entry)) block ⌝ }
+{
+    if let Verdict::Refused(number, at) = blocks_refusal(head, blocks, readings) {
+        return no_deviation(number, at);
+    }
+    if head.m * head.n <= block {
+        return no_deviation(5, block);
+    }
+    let mut words = [0u64; 2600];
+    let mut values = [0i64; 50];
+    let mut deviations = [0i64; 1300];
+    let solved = analyse(
+        head,
+        blocks,
+        readings,
+        1,
+        0,
+        &mut words,
+        &mut values,
+        &mut deviations,
+    );
+    let verdict = solved.verdict;
+    if let Verdict::Refused(number, at) = verdict {
+        return no_deviation(number, at);
+    }
+    let numerator = deviations[block];
+    BlockDeviation {
+        verdict: Verdict::Accepted,
+        numerator,
+        denominator: solved.spreading.vbeta,
+    }
+}
+
+// Q.
+pub fn q(head: Head, blocks: &[u8], readings: &[i32]) -> SquareSum
+    ensures { λ r. ⌜ r ≡ qAnswer head (now (blocks .entry)) (now (readings .entry)) ⌝ }
+{
+    let measured = spread(head, blocks, readings);
+    let verdict = measured.verdict;
+    SquareSum {
+        verdict,
+        sum: measured.spreading.q,
+    }
+}
+
+// The spread, with all that it is made from.
+pub fn spread(head: Head, blocks: &[u8], readings: &[i32]) -> JobSpread
+    ensures { λ r. ⌜ r ≡ spreadAnswer head (now (blocks .entry)) (now (readings .entry)) ⌝ }
+{
+    let mut words = [0u64; 2600];
+    let mut values = [0i64; 50];
+    let mut deviations = [0i64; 1300];
+    let solved = analyse(
+        head,
+        blocks,
+        readings,
+        1,
+        0,
+        &mut words,
+        &mut values,
+        &mut deviations,
+    );
+    let verdict = solved.verdict;
+    let spreading = solved.spreading;
+    JobSpread { verdict, spreading }
+}
+
+// What a refused deviation hands back.
+fn no_deviation(number: u8, at: usize) -> BlockDeviation
+    ensures { λ r. ⌜ r ≡ noDeviation (refused number at) ⌝ }
+{
+    BlockDeviation {
+        verdict: Verdict::Refused(number, at),
+        numerator: 0,
+        denominator: 0,
+    }
+}

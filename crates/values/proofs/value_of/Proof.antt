@@ -1,0 +1,114 @@
+-- `value_of`: past its own tests the job decides, and the Value is made of the object's numerator. Assumes nothing.
+use borrow.Author.Needs.{needs}
+use mathlib.Core.Path.{_≡_, sym, ap, ap₂, _∙_}
+use mathlib.Core.List.{List}
+use Prim.Native.Nat.{ℕ, _≤_, _<_}
+use native.Mathlib.Omega.{arith}
+use denote.Ref.{now}
+use lib.IntN.{ℤ, pos}
+use lib.ListN.{getD}
+use mir.Facts.{toZ-ofZ}
+use Rattle.algebra.proofs.Filling.{getD-over}
+use Rattle.algebra.proofs.Signs.{read-back}
+use Rattle.meaning.specs.declared.Head.{Head}
+use Rattle.meaning.specs.declared.Verdict.{Verdict}
+use Rattle.meaning.specs.declared.Solved.{Solved}
+use Rattle.meaning.specs.Design.{objects}
+use Rattle.meaning.specs.Analysis.{numeratorOf, denominatorOf}
+use Rattle.meaning.specs.Refusals.{_⨾_, accepted, clean}
+use Rattle.meaning.specs.Calls.{slices, jobVerdict, analyseVerdict}
+use Rattle.laws.proofs.Chains.{Job, job, opened, sliced, given-yes}
+use Rattle.quotient.specs.Quotient.{valueFrom}
+use Rattle.values.proofs.Refusing.{job-verdict, value-refused, value-no-object, value-job, no-value-is, value-is-given, value-from-is}
+use Rattle.values.proofs.value_of.Statement.{statement}
+use Rattle.values.proofs.value_of.Tie as tie
+
+-- past the tests of the blocks
+passed : (c : tie.After-enum-told) →
+    slices (c .before .before .before .before .args .head) (now (c .before .before .before .before .args .blocks)) (now (c .before .before .before .before .args .readings)) ⨾ clean (c .before .before .before .before .args .head) (now (c .before .before .before .before .args .blocks)) ≡ accepted
+passed c = sym (c .before .before .blocks-refusal .ensures) ∙ c .enum-told .given .1
+
+-- once the job is worked out
+module _ (c : tie.After-analyse) where
+  abbrev start : tie.Start
+  start = c .before .before .before .before .before .before .before .before .before .before
+
+  abbrev head : Head
+  head = start .args .head
+
+  abbrev bytes : List ℕ
+  bytes = now (start .args .blocks)
+
+  abbrev ys : List ℤ
+  ys = now (start .args .readings)
+
+  abbrev tests : Verdict
+  tests = jobVerdict head bytes ys (start .args .set) (start .args .sum)
+
+  there : start .args .object < objects head
+  there = omega (arith, c .before .before .before .before .if1 .left)
+
+  rooms : analyseVerdict head bytes ys (start .args .set) (start .args .sum) 2600 50 1300 ≡ tests
+  rooms = job-verdict head bytes ys (start .args .set) (start .args .sum)
+
+  solved-verdict : c .analyse .result .verdict ≡ tests
+  solved-verdict = ap (λ (r : Solved). r .verdict) (rw (toZ-ofZ (start .fits .sum)) at (c .analyse .ensures .0)) ∙ rooms
+
+  module _ (e : tests ≡ accepted) where
+    denominator-is : c .analyse .result .denominator ≡ denominatorOf head bytes (start .args .set)
+    denominator-is = ap (λ (r : Solved). r .denominator) (rw (toZ-ofZ (start .fits .sum)) at (c .analyse .ensures .0))
+        ∙ given-yes (analyseVerdict head bytes ys (start .args .set) (start .args .sum) 2600 50 1300) (denominatorOf head bytes (start .args .set)) 0 (rooms ∙ e)
+
+    numerator-is : getD (c .analyse .last .1 .1 .1 .1 .1 .1 .0) (start .args .object) (pos 0) ≡ numeratorOf head bytes ys (start .args .set) (start .args .sum) (start .args .object)
+    numerator-is =
+        ap (λ (l : List ℤ). getD l (start .args .object) (pos 0))
+        ((rw (toZ-ofZ (start .fits .sum)) at (c .analyse .ensures .1 .1 .0)) ∙ given-yes (analyseVerdict head bytes ys (start .args .set) (start .args .sum) 2600 50 1300) _ _ (rooms ∙ e))
+        ∙ getD-over (objects head) (numeratorOf head bytes ys (start .args .set) (start .args .sum)) _ (pos 0) (start .args .object) there
+        (job head bytes ys (start .args .set) (start .args .sum) e .measures .design .sizes .objects-most)
+
+returns : tie.Need-returns
+returns c =
+    c .no-value .ensures
+    ∙ no-value-is _ _ _ _ _ _ _ _ (value-refused _ _ _ _ _ _ _ _ (sym (c .before .before .before .before .blocks-refusal .ensures) ∙ c .before .before .number .given .1))
+
+returns-2 : tie.Need-returns-2
+returns-2 c = c .no-value2 .ensures ∙ no-value-is _ _ _ _ _ _ _ _ (value-no-object _ _ _ _ _ _ (passed (c .before .before .before)) (search needs))
+
+returns-3 : tie.Need-returns-3
+returns-3 c =
+    let a = c .before .before .before .before .before .before .before in
+    c .no-value3 .ensures
+    ∙ no-value-is _ _ _ _ _ _ _ _ (value-job _ _ _ _ _ _ (passed (c .before .before .before .before .before .before .before .before .before .before .before .before .before)) (there a) ∙ sym (solved-verdict a) ∙ c .before .before .verdict .given .1)
+
+returns-4 : tie.Need-returns-4
+returns-4 c =
+    let a = c .before .before .before .before .before .before .before in
+    let e = sym (solved-verdict a) ∙ c .before .before .enum-told2 .given .1 in
+    value-is-given _ _ _ _ _ _ _ (value-job _ _ _ _ _ _ (passed (c .before .before .before .before .before .before .before .before .before .before .before .before .before)) (there a) ∙ e)
+    (c .value-from .ensures ∙ ap₂ valueFrom (read-back _ (c .before .value-from-arg .given) ∙ numerator-is a e) (denominator-is a e)
+    ∙ value-from-is _ _ _ _ _ _ (job (head a) (bytes a) (ys a) (start a .args .set) (start a .args .sum) e))
+
+pub value-of-spec : {M : Type 1} → statement M
+value-of-spec =
+    tie.close
+    (tie.spec
+    (λ c κs. search needs)
+    (λ c. search needs)
+    (λ c κs. search needs)
+    returns
+    (λ c. search needs)
+    (λ c. omega (arith, sliced _ _ _ (opened _ _ (passed (c .before)) .0) .sizes .objects-most))
+    (λ c κs. search needs)
+    returns-2
+    (λ c. search needs)
+    (λ c. search needs)
+    (λ c. search needs)
+    (λ c κs. search needs)
+    (λ c. search needs)
+    (λ c κs. search needs)
+    returns-3
+    (λ c. search needs)
+    (λ c. omega (arith, there (c .before .before .before .before .before), sliced _ _ _ (opened _ _ (passed (c .before .before .before .before .before .before .before .before .before .before .before)) .0) .sizes .objects-most))
+    (λ c. omega (arith, there (c .before .before .before .before .before), sliced _ _ _ (opened _ _ (passed (c .before .before .before .before .before .before .before .before .before .before .before)) .0) .sizes .objects-most))
+    (λ c κs. search needs)
+    returns-4)

@@ -1,0 +1,8 @@
+-- What a refused value is. Assumes nothing.
+use Rattle.meaning.specs.declared.Verdict.{Verdict}
+use Rattle.meaning.specs.declared.ObjectValue.{ObjectValue}
+use Rattle.meaning.specs.Publishing.{noValue}
+
+-- a verdict with no value
+abbrev pub noValueUnder : Verdict → ObjectValue
+noValueUnder verdict = record { verdict = verdict; value = noValue }

@@ -1,0 +1,2 @@
+-- What a refused value is.
+pub mod Answers

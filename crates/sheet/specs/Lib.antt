@@ -1,0 +1,2 @@
+-- What the lines and the text are, from what was worked out.
+pub mod Sheet

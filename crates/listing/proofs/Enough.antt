@@ -1,0 +1,64 @@
+-- 64 KiB are room for the text of every byte string.
+--     text-length   no text is longer
+--     enough        so with that room the whole text is given: it stands in front, and its length is answered
+-- Of an accepted job the lines are few and the denominators of its deviations short; a refusal is one line. Assumes nothing.
+use mathlib.Core.Path.{_≡_, refl}
+use mathlib.Core.Bool.{Bool, true, false}
+use mathlib.Core.List.{List}
+use Prim.Native.Nat.{ℕ, _*_, _^_, _≤_, _<_}
+use native.Mathlib.Omega.{arith}
+use borrow.Author.Tests.{le-leb, leb-true}
+use lib.Dec.{leb}
+use lib.IntN.{ℤ}
+use lib.ListN.{length, take, drop, length-append}
+use lib.Seq.{take-append-seam}
+use Rattle.meaning.specs.declared.Head.{Head}
+use Rattle.meaning.specs.declared.Verdict.{Verdict}
+use Rattle.meaning.specs.declared.Verdict.the-variants.{Accepted, Refused}
+use Rattle.meaning.specs.Design.{objects, blocks, parametersOf}
+use Rattle.meaning.specs.Analysis.{vbeta, numeratorOf, denominatorOf, deviationOf}
+use Rattle.meaning.specs.Publishing.{published}
+use Rattle.meaning.specs.Refusals.{accepted, test}
+use Rattle.meaning.specs.Calls.{given, jobVerdict, spreadingOf}
+use Rattle.meaning.specs.File.{headOf, blocksOf, readingsOf, setOf, sumOf, readVerdict}
+use Rattle.meaning.specs.Text.{each, valueLine, devLine, jobText, textUnder, textOf, listedAnswer, listedAfter}
+use Rattle.laws.proofs.Chains.{job}
+use Rattle.laws.proofs.Sizes.{vbeta-most}
+use Rattle.laws.proofs.Files.{file-job}
+use Rattle.printing.proofs.Lengths.{each-length}
+use Rattle.lines.proofs.Lengths.{design-length, value-length, dev-length, spread-length, refused-length}
+
+-- the listing of an accepted job
+pub job-length : (h : Head) (d : List ℕ) (y : List ℤ) (w : ℕ) (M : ℤ) → jobVerdict h d y w M ≡ accepted → length (jobText h d y w M) ≤ 51624
+job-length h d y w M e =
+    let j = job h d y w M e in
+    let size = j .measures .design .sizes in
+    let small : vbeta h d < 10 ^ 4 = omega (arith, vbeta-most h d (j .measures .design) (j .measures .even)) in
+    let values : length (each (objects h) (λ i. valueLine i (numeratorOf h d y w M i) (denominatorOf h d w) (published h d y w M i))) ≤ objects h * 92 =
+    each-length (objects h) 92 _ (λ i l. value-length i (numeratorOf h d y w M i) (denominatorOf h d w) (published h d y w M i)) in
+    let deviations : length (each (blocks h) (λ k. devLine k (deviationOf h d y k) (vbeta h d))) ≤ blocks h * 36 =
+    each-length (blocks h) 36 _ (λ k l. dev-length 3 3 k (deviationOf h d y k) (vbeta h d) (omega (arith, size .blocks-most)) small) in
+    rw (length-append, length-append, length-append)
+    (omega (arith, design-length (parametersOf h d), values, deviations, spread-length (spreadingOf h d y), size .objects-most, size .blocks-most))
+
+-- the text of any byte string
+pub text-length : (s : List ℕ) → length (textOf s) ≤ 65536
+unfolding textOf
+text-length s = by (readVerdict s) refl
+  where
+    by : (v : Verdict) → readVerdict s ≡ v → length (textUnder v s) ≤ 65536
+    by Accepted e = omega (arith, job-length (headOf s) (blocksOf s) (readingsOf s) (setOf s) (sumOf s) (file-job s e .1))
+    by (Refused k place) e = omega (arith, refused-length k place)
+
+-- with that room the answer is the text's length, and the text stands in front
+pub enough : (s out : List ℕ) → 65536 ≤ length out →
+    (listedAnswer s (length out) ≡ record { verdict = accepted; length = length (textOf s) }) × (take (length (textOf s)) (listedAfter s out) ≡ textOf s)
+enough s out l = rw (le-leb (length (textOf s)) (length out) (omega (arith, text-length s))) (refl, take-append-seam (textOf s) (drop (length (textOf s)) out))
+
+-- whatever the room, no more bytes are answered than it has
+pub answer-fits : (s : List ℕ) (len : ℕ) → listedAnswer s len .length ≤ len
+answer-fits s len = by (leb (length (textOf s)) len) refl
+  where
+    by : (t : Bool) → leb (length (textOf s)) len ≡ t → given (test t 10 0) (length (textOf s)) 0 ≤ len
+    by true e = leb-true _ _ e
+    by false e = omega arith

@@ -1,18 +1,20 @@
 -- 64 KiB are room for the text of every byte string.
 --     text-length   no text is longer
---     enough        so with that room the whole text is given: it stands in front, and its length is answered
+--     enough        so with that room the whole text is given: as many bytes as are answered are the text
+--     counts        whatever the room, as many bytes as are answered stand in it
 -- Of an accepted job the lines are few and the denominators of its deviations short; a refusal is one line. Assumes nothing.
-use mathlib.Core.Path.{_≡_, refl}
+use mathlib.Core.Path.{_≡_, refl, sym}
 use mathlib.Core.Bool.{Bool, true, false}
-use mathlib.Core.List.{List}
+use mathlib.Core.List.{List, _++_}
 use Prim.Native.Nat.{ℕ, _*_, _^_, _≤_, _<_}
 use native.Mathlib.Omega.{arith}
-use borrow.Author.Tests.{le-leb, leb-true}
+use borrow.Author.Tests.{le-leb}
 use lib.Dec.{leb}
 use lib.IntN.{ℤ}
 use lib.ListN.{length, take, drop, length-append}
-use lib.Seq.{take-append-seam}
+use lib.Seq.{length-take-le, take-append-seam}
 use Rattle.meaning.specs.declared.Head.{Head}
+use Rattle.meaning.specs.declared.Listed.{Listed}
 use Rattle.meaning.specs.declared.Verdict.{Verdict}
 use Rattle.meaning.specs.declared.Verdict.the-variants.{Accepted, Refused}
 use Rattle.meaning.specs.Design.{objects, blocks, parametersOf}
@@ -50,15 +52,18 @@ text-length s = by (readVerdict s) refl
     by Accepted e = omega (arith, job-length (headOf s) (blocksOf s) (readingsOf s) (setOf s) (sumOf s) (file-job s e .1))
     by (Refused k place) e = omega (arith, refused-length k place)
 
--- with that room the answer is the text's length, and the text stands in front
-pub enough : (s out : List ℕ) → 65536 ≤ length out →
-    (listedAnswer s (length out) ≡ record { verdict = accepted; length = length (textOf s) }) × (take (length (textOf s)) (listedAfter s out) ≡ textOf s)
-enough s out l = rw (le-leb (length (textOf s)) (length out) (omega (arith, text-length s))) (refl, take-append-seam (textOf s) (drop (length (textOf s)) out))
+module _ (s out : List ℕ) {r : Listed} {after : List ℕ} (says : r ≡ listedAnswer s (length out)) (leaves : after ≡ listedAfter s out) where
+  -- with that room, as many bytes as are answered are the text
+  pub enough : 65536 ≤ length out → take (r .length) after ≡ textOf s
+  enough l = rw (says, leaves, le-leb (length (textOf s)) (length out) (omega (arith, text-length s))) (take-append-seam (textOf s) (drop (length (textOf s)) out))
 
--- whatever the room, no more bytes are answered than it has
-pub answer-fits : (s : List ℕ) (len : ℕ) → listedAnswer s len .length ≤ len
-answer-fits s len = by (leb (length (textOf s)) len) refl
-  where
-    by : (t : Bool) → leb (length (textOf s)) len ≡ t → given (test t 10 0) (length (textOf s)) 0 ≤ len
-    by true e = leb-true _ _ e
-    by false e = omega arith
+  -- whatever the room, as many as are answered stand in it
+  pub counts : (r .length ≤ length after) × (r .length ≡ length (take (r .length) after))
+  counts = let l = stands in (l, sym (length-take-le (r .length) after l))
+    where
+      by : (t : Bool) → given (test t 10 0) (length (textOf s)) 0 ≤ length (given (test t 10 0) (textOf s ++ drop (length (textOf s)) out) out)
+      by true = rw length-append (omega arith)
+      by false = omega arith
+
+      stands : r .length ≤ length after
+      stands = rw (says, leaves) (by (leb (length (textOf s)) (length out)))

@@ -1,4 +1,5 @@
--- The text of a file: that bytes past 8,192 do not change it, how long it is, and that what was worked out gives it.
+-- The text of a file: that what was worked out gives it, how long it is, that bytes past 8,192 do not change it, and what determines the outcome of the public function.
 pub mod Cut
 pub mod Enough
 pub mod Text
+pub mod Determined

@@ -1,0 +1,15 @@
+-- Any two outcomes that keep the promise of `listing` are identical: the answer, and the lent room at exit. `Post` is the contract itself, as the check reads it from the source. Assumes nothing.
+use mathlib.Core.Path.{_≡_, sym, _∙_}
+use contract.Lifetimes.{Lfts}
+use denote.Ref.{now}
+use denote.Triple.Clauses.{AtExit}
+use borrow.Fn.World.{ArgsD, ResD}
+use borrow.Fn.Kinds.{endedOf}
+use Rattle.listing.proofs.listing as listing
+use Rattle.listing.proofs.listing.Kinds as listing-kinds
+use Rattle.listing.proofs.listing.Reads as listing-reads
+
+-- of `listing`
+module _ (κs : Lfts 2) (a : ArgsD listing.signature κs) (r q : ResD listing.signature κs) (s t : AtExit (endedOf 2 listing-kinds.ps listing-kinds.r) κs) where
+  pub listing-determined : listing-reads.Post κs a r s → listing-reads.Post κs a q t → (r ≡ q) × (now (s .1 .0) ≡ now (t .1 .0))
+  listing-determined p e = (p .0 ∙ sym (e .0), p .1 ∙ sym (e .1))

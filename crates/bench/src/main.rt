@@ -1,0 +1,26 @@
+// The bench: reads a job file from standard input, up to 8,192 bytes, and prints its listing. A read that fails counts as the end.
+use libc::STDIN_FILENO;
+use libc::STDOUT_FILENO;
+ghost use mathlib.Core.Path.{_≡_};
+ghost use Prim.Native.Nat.{_≤_};
+ghost use lib.ListN.{length, take};
+ghost use Rattle.io.specs.Counts.{Counts};
+ghost use Rattle.meaning.specs.Text.{textOf};
+
+fn main() {
+    let mut input = [0u8; 8192];
+    let n = io::read_full(STDIN_FILENO, &mut input);
+    let mut text = [0u8; 65536];
+    let length = put_text(&input[..n], &mut text);
+    io::write_all(STDOUT_FILENO, &text[..length]);
+}
+
+// The text for a file at the front of `text`, and its length: what is printed. 64 KiB are room for every text.
+fn put_text(bytes: &[u8], text: &mut [u8]) -> usize
+    requires { ⌜ 65536 ≤ length (now text) ⌝ }
+    ensures { λ r. ⌜ take r (now (text .exit)) ≡ textOf (now (bytes .entry)) ⌝ }
+    ensures { λ r. ⌜ Counts r (now (text .exit)) ⌝ }
+{
+    let listed = listing::listing(bytes, text);
+    listed.length
+}

@@ -1,10 +1,10 @@
 -- What a call is handed of a file is what the file holds, so that its answer, moved, is the file's. Assumes nothing.
 use Prim.Native.Nat.{ℕ, _+_, _-_, _*_, _≤_}
-use mathlib.Core.Path.{_≡_, refl, sym, ap, _∙_}
+use mathlib.Core.Path.{_≡_, sym, ap, _∙_}
 use mathlib.Core.List.{List}
 use native.Mathlib.Omega.{arith}
 use lib.IntN.{ℤ}
-use lib.ListN.{length, getD, take, drop}
+use lib.ListN.{length, take, drop}
 use Rattle.algebra.specs.Buffers.{over}
 use Rattle.algebra.proofs.Filling.{length-over}
 use Rattle.meaning.specs.declared.Head.{Head}
@@ -17,12 +17,7 @@ use Rattle.meaning.specs.Calls.{given, jobVerdict, analyseVerdict, solvedUnder,
 use Rattle.meaning.specs.File.{big, twos, numbersAt, headOf, thirdAt, readingsAt, blocksOf, setOf, sumOf, readingsOf, fields, placed, readVerdict, solveVerdict, readAnswer}
 use Rattle.laws.proofs.Files.{read-moved, solve-moved}
 use Rattle.job.proofs.Places.{job-place, analyse-place, file-most, given-placed, solved-placed}
-use Rattle.numbers.proofs.Rows.{numberOf, take-numbers}
-
--- a head of the four bytes of the first field is the file's
-pub head-is : (s : List ℕ) (n flag p m : ℕ) → n ≡ getD s 3 0 → flag ≡ getD s 4 0 → p ≡ getD s 5 0 → m ≡ getD s 6 0
-    → _≡_ {A = Head} (record { n = n; flag = flag; p = p; m = m }) (headOf s)
-head-is s n flag p m a b c d = rw (a, b, c, d)
+use Rattle.numbers.proofs.Rows.{take-numbers}
 
 -- what stands three bytes after the third field's start is the restraint set, and eight bytes on its sum
 pub set-part : (s : List ℕ) (third w : ℕ) → third ≡ thirdAt s → w ≡ big s (third + 3) 8 → w ≡ setOf s

@@ -1,5 +1,4 @@
--- The laws of a file's fields, of the places in it and of what it holds, and what the promises determine.
-pub mod Fields
+-- The laws of the places in a file and of what it holds, and what the promises determine.
 pub mod Places
 pub mod Holding
 pub mod Determined

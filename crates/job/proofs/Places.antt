@@ -10,7 +10,6 @@ use lib.IntN.{ℤ, natAbs}
 use lib.ListN.{length}
 use Rattle.algebra.proofs.Tests.{first-bounds}
 use Rattle.meaning.specs.declared.Head.{Head}
-use Rattle.meaning.specs.declared.Solved.{Solved}
 use Rattle.meaning.specs.declared.Verdict.{Verdict}
 use Rattle.meaning.specs.declared.Verdict.the-variants.{Accepted, Refused}
 use Rattle.meaning.specs.Design.{objects, blocks, sized, listLength, balanced}
@@ -20,6 +19,7 @@ use Rattle.meaning.specs.Calls.{given, slices, contents, jobVerdict, rooms, ana
 use Rattle.meaning.specs.File.{headOf, thirdAt, readingsAt, blocksOf, readingsOf, fields, placed}
 use Rattle.laws.proofs.Chains.{fits, listed-most}
 use Rattle.laws.proofs.Files.{numbers-long, filed, blocks-long}
+use Rattle.fields.proofs.Order.{third-most}
 
 -- ---- how large a place is
 
@@ -66,6 +66,10 @@ module _ (h : Head) (d : List ℕ) (y : List ℤ) where
   analyse-place w M words values deviations =
       chain-place (jobVerdict h d y w M) (rooms h words values deviations) _ (job-place w M)
       (no-place (leb (2 * blocks h) words) (leb (objects h) values) (leb (blocks h) deviations) 10 10 10 _)
+
+-- the third field of a file starts within 3210 bytes
+pub third-low : (s : List ℕ) → fields s ≡ accepted → thirdAt s ≤ 3210
+third-low s e = third-most s (fits (headOf s) (filed s e .size))
 
 -- a file has at most 1300 readings
 pub readings-most : (s : List ℕ) → fields s ≡ accepted → blocks (headOf s) ≤ 1300

@@ -1,7 +1,9 @@
 // A job file as a whole: its four fields and what they hold, refused in the request's order, and the job worked out into lent room.
 use analysis::analyse;
-use design::sized;
-use meaning::Field;
+use fields::block_count;
+use fields::fields_refusal;
+use fields::head_of;
+use fields::third_at;
 use meaning::Head;
 use meaning::JobRead;
 use meaning::Parameters;
@@ -9,20 +11,17 @@ use meaning::Solved;
 use meaning::Spread;
 use meaning::Spreading;
 use meaning::Verdict;
-use numbers::byte;
 use numbers::eight_bytes;
 use numbers::readings;
 use numbers::signed_64;
-use reader::take;
 use refusals::refusal;
 ghost use mathlib.Core.Path.{_≡_};
 ghost use mathlib.Core.List.{[]};
 ghost use Prim.Native.Nat.{_≤_};
 ghost use lib.ListN.{length};
-ghost use Rattle.meaning.specs.Refusals.{_⨾_, accepted, refused, place, sizes};
-ghost use Rattle.meaning.specs.Design.{blocks};
+ghost use Rattle.meaning.specs.Refusals.{refused, place};
 ghost use Rattle.meaning.specs.Calls.{solvedUnder, wordsUnder, valuesUnder, deviationsUnder};
-ghost use Rattle.meaning.specs.File.{fieldVerdict, headOf, thirdAt, noHead, blocksOf, readingsOf, setOf, sumOf, fields, placed, readVerdict, solveVerdict, readAnswer};
+ghost use Rattle.meaning.specs.File.{headOf, thirdAt, blocksOf, setOf, sumOf, readingsOf, noHead, placed, readVerdict, solveVerdict, readAnswer};
 ghost use Rattle.job.specs.Answers.{readUnder};
 
 // Reads a job file: its head, where its blocks and its readings start, its restraint; or the first refusal in file order.
@@ -108,88 +107,9 @@ fn read_refusal(bytes: &[u8]) -> Verdict
     moved(bytes, direct)
 }
 
-// The four fields and the end of the file; the sizes right after the first.
-fn fields_refusal(bytes: &[u8]) -> Verdict
-    ensures { λ r. ⌜ r ≡ fields (now (bytes .entry)) ⌝ }
-{
-    if let Verdict::Refused(number, place) = head_refusal(bytes) {
-        return Verdict::Refused(number, place);
-    }
-    let third = third_at(bytes);
-    let fourth = third + 19;
-    let length = 4 * block_count(bytes);
-    let end = fourth + 3 + length;
-    if let Verdict::Refused(number, place) = field_refusal(bytes, 7, 2, third - 10) {
-        return Verdict::Refused(number, place);
-    }
-    if let Verdict::Refused(number, place) = field_refusal(bytes, third, 3, 16) {
-        return Verdict::Refused(number, place);
-    }
-    if let Verdict::Refused(number, place) = field_refusal(bytes, fourth, 4, length) {
-        return Verdict::Refused(number, place);
-    }
-    if end != bytes.len() {
-        return Verdict::Refused(9, end);
-    }
-    Verdict::Accepted
-}
-
-// The first field and the sizes that it tells.
-fn head_refusal(bytes: &[u8]) -> Verdict
-    ensures { λ r. ⌜ r ≡ fieldVerdict (now (bytes .entry)) 0 1 4 ⨾ sizes (headOf (now (bytes .entry))) ⌝ }
-{
-    if let Verdict::Refused(number, place) = field_refusal(bytes, 0, 1, 4) {
-        return Verdict::Refused(number, place);
-    }
-    if !sized(head_of(bytes)) {
-        return Verdict::Refused(4, 0);
-    }
-    Verdict::Accepted
-}
-
-// The tests of one field.
-fn field_refusal(bytes: &[u8], place: usize, tag: u8, length: usize) -> Verdict
-    ensures { λ r. ⌜ r ≡ fieldVerdict (now (bytes .entry)) place tag length ⌝ }
-{
-    match take(bytes, place, tag, length) {
-        Field::Body(_, _) => Verdict::Accepted,
-        Field::Unfit(number, at) => Verdict::Refused(number, at),
-    }
-}
-
-// The four sizes, in the bytes of the first field's body.
-fn head_of(bytes: &[u8]) -> Head
-    ensures { λ r. ⌜ r ≡ headOf (now (bytes .entry)) ⌝ }
-{
-    Head {
-        n: byte(bytes, 3) as usize,
-        flag: byte(bytes, 4) as usize,
-        p: byte(bytes, 5) as usize,
-        m: byte(bytes, 6) as usize,
-    }
-}
-
-// Where the third field starts. A size is a byte, so that no place wraps.
-fn third_at(bytes: &[u8]) -> usize
-    ensures { λ r. ⌜ (r ≡ thirdAt (now (bytes .entry))) × (r ≤ 130060) ⌝ }
-{
-    let p = byte(bytes, 5) as usize;
-    let m = byte(bytes, 6) as usize;
-    10 + 2 * p * m
-}
-
-// The number of blocks, and of readings.
-fn block_count(bytes: &[u8]) -> usize
-    ensures { λ r. ⌜ (r ≡ blocks (headOf (now (bytes .entry)))) × (r ≤ 65025) ⌝ }
-{
-    let m = byte(bytes, 6) as usize;
-    let n = byte(bytes, 3) as usize;
-    m * n
-}
-
 // A direct call's verdict moved to its place in the file: a byte of the blocks, the start of the third field, the first byte of a reading.
 fn moved(bytes: &[u8], verdict: Verdict) -> Verdict
-    requires { ⌜ place verdict ≤ 4500 ⌝ }
+    requires { ⌜ (thirdAt (now bytes) ≤ 3210) × (place verdict ≤ 4500) ⌝ }
     ensures { λ r. ⌜ r ≡ placed (now (bytes .entry)) verdict ⌝ }
 {
     let Verdict::Refused(number, i) = verdict else {

@@ -11,22 +11,22 @@ returns : tie.Need-returns
 returns c = rw (c .enum-told .given .1) (search needs)
 
 add-place : tie.Need-add-place
-add-place c = omega (arith, refused-place _ _ _ _ (c .before .before .before .verdict .given .1) (c .before .before .before .before .before .before .pre))
+add-place c = omega (arith, refused-place _ _ _ _ (c .before .before .before .verdict .given .1) (c .before .before .before .before .before .before .pre .1))
 
 returns-2 : tie.Need-returns-2
 returns-2 c = rw (c .before .before .before .verdict .given .1, placed-byte (now (c .before .before .before .before .before .before .args .bytes)) (c .before .before .before .verdict .given .0 .0) (c .before .before .before .verdict .given .0 .1 .0) (search needs)) (search needs)
 
 returns-3 : tie.Need-returns-3
-returns-3 c = rw (c .before .before .before .before .verdict .given .1, placed-restraint (now (c .before .before .before .before .before .before .before .args .bytes)) (c .before .before .before .before .verdict .given .0 .0) (c .before .before .before .before .verdict .given .0 .1 .0) (search needs), c .before .before .third-at .ensures .0) (search needs)
+returns-3 c = rw (c .before .before .before .before .verdict .given .1, placed-restraint (now (c .before .before .before .before .before .before .before .args .bytes)) (c .before .before .before .before .verdict .given .0 .0) (c .before .before .before .before .verdict .given .0 .1 .0) (search needs), c .before .before .third-at .ensures) (search needs)
 
 mul-place : tie.Need-mul-place
-mul-place c = omega (arith, refused-place _ _ _ _ (c .before .before .before .before .before .verdict .given .1) (c .before .before .before .before .before .before .before .before .pre))
+mul-place c = omega (arith, refused-place _ _ _ _ (c .before .before .before .before .before .verdict .given .1) (c .before .before .before .before .before .before .before .before .pre .1))
 
 add-place-3 : tie.Need-add-place-3
-add-place-3 c = omega (arith, refused-place _ _ _ _ (c .before .before .before .before .before .verdict .given .1) (c .before .before .before .before .before .before .before .before .pre))
+add-place-3 c = omega (arith, c .before .before .before .third-at .ensures, c .before .before .before .before .before .before .before .before .pre .0, refused-place _ _ _ _ (c .before .before .before .before .before .verdict .given .1) (c .before .before .before .before .before .before .before .before .pre .1))
 
 returns-4 : tie.Need-returns-4
-returns-4 c = rw (c .before .before .before .before .before .verdict .given .1, placed-reading (now (c .before .before .before .before .before .before .before .before .args .bytes)) (c .before .before .before .before .before .verdict .given .0 .0) (c .before .before .before .before .before .verdict .given .0 .1 .0) (search needs), c .before .before .before .third-at .ensures .0) (search needs)
+returns-4 c = rw (c .before .before .before .before .before .verdict .given .1, placed-reading (now (c .before .before .before .before .before .before .before .before .args .bytes)) (c .before .before .before .before .before .verdict .given .0 .0) (c .before .before .before .before .before .verdict .given .0 .1 .0) (search needs), c .before .before .before .third-at .ensures) (search needs)
 
 returns-5 : tie.Need-returns-5
 returns-5 c = rw (c .before .before .before .before .before .verdict .given .1, placed-else (now (c .before .before .before .before .before .before .before .before .args .bytes)) (c .before .before .before .before .before .verdict .given .0 .0) (c .before .before .before .before .before .verdict .given .0 .1 .0) (search needs) (search needs) (search needs)) (search needs)
@@ -42,7 +42,7 @@ moved-spec =
     add-place
     returns-2
     returns-3
-    (λ c. search needs)
+    (λ c. omega (arith, c .before .before .before .third-at .ensures, c .before .before .before .before .before .before .before .before .pre .0))
     mul-place
     add-place-3
     returns-4

@@ -1,6 +1,6 @@
 -- `job::read_refusal` meets its contract: what the direct call is handed is what the file holds, and its verdict is moved.
 -- Assumes nothing.
-use Prim.Native.Nat.{ℕ, _-_}
+use Prim.Native.Nat.{ℕ, _-_, _≤_}
 use mathlib.Core.Path.{_≡_, sym, _∙_}
 use mathlib.Core.List.{List}
 use native.Mathlib.Omega.{arith}
@@ -13,7 +13,7 @@ use Rattle.algebra.proofs.Signs.{read-back}
 use Rattle.meaning.specs.Refusals.{accepted}
 use Rattle.meaning.specs.File.{headOf, thirdAt, blocksOf, setOf, sumOf, readingsOf, fields, readVerdict}
 use Rattle.laws.proofs.Files.{filed}
-use Rattle.job.proofs.Places.{readings-most}
+use Rattle.job.proofs.Places.{third-low, readings-most}
 use Rattle.job.proofs.Holding.{written-long, set-part, sum-part, blocks-part, readings-part, read-place, read-direct}
 use Rattle.job.proofs.read_refusal.Statement.{statement}
 use Rattle.job.proofs.read_refusal.Tie as tie
@@ -21,6 +21,10 @@ use Rattle.job.proofs.read_refusal.Tie as tie
 -- past the first test the fields are there
 passed : (c : tie.After-enum-told) → fields (now (c .before .before .before .before .args .bytes)) ≡ accepted
 passed c = sym (c .before .before .fields-refusal .ensures) ∙ c .enum-told .given .1
+
+-- so the third field starts early
+low : (c : tie.After-third-at) → c .third-at .result ≤ 3210
+low c = omega (arith, c .third-at .ensures, third-low (now (c .before .before .before .before .before .before .args .bytes)) (passed (c .before .before)))
 
 returns : tie.Need-returns
 unfolding readVerdict
@@ -30,7 +34,7 @@ part-refusal-end : tie.Need-part-refusal-end
 part-refusal-end c = omega (arith, filed _ (passed (c .before .before .before .before .before .before .before .before)) .ends)
 
 part-refusal-end-2 : tie.Need-part-refusal-end-2
-part-refusal-end-2 c = omega (arith, readings-most _ (passed (c .before .before .before .before .before .before .before .before .before .before)), c .before .before .before .before .before .before .before .block-count .ensures .0, written-long _ _ _ _ (c .before .before .before .readings .ensures))
+part-refusal-end-2 c = omega (arith, readings-most _ (passed (c .before .before .before .before .before .before .before .before .before .before)), c .before .before .before .before .before .before .before .block-count .ensures, written-long _ _ _ _ (c .before .before .before .readings .ensures))
 
 -- what the direct call was handed
 module _ (c : tie.After-refusal) where
@@ -44,7 +48,7 @@ module _ (c : tie.After-refusal) where
   there = passed (found .before .before .before .before .before)
 
   third : found .before .before .before .third-at .result ≡ thirdAt bytes
-  third = found .before .before .before .third-at .ensures .0
+  third = found .before .before .before .third-at .ensures
 
   head : found .before .before .before .before .head-of .result ≡ headOf bytes
   head = found .before .before .before .before .head-of .ensures
@@ -54,8 +58,8 @@ module _ (c : tie.After-refusal) where
 
   readings : take (found .before .before .block-count .result - 0) (drop 0 (c .before .before .before .before .before .readings .last .1 .1 .1 .0)) ≡ readingsOf bytes
   readings =
-      readings-part bytes _ _ _ _ third (found .before .before .block-count .ensures .0)
-      (omega (arith, readings-most bytes there, found .before .before .block-count .ensures .0)) (c .before .before .before .before .before .readings .ensures)
+      readings-part bytes _ _ _ _ third (found .before .before .block-count .ensures)
+      (omega (arith, readings-most bytes there, found .before .before .block-count .ensures)) (c .before .before .before .before .before .readings .ensures)
 
   set : found .before .eight-bytes .result ≡ setOf bytes
   set = set-part bytes _ _ third (found .before .eight-bytes .ensures)
@@ -66,7 +70,7 @@ module _ (c : tie.After-refusal) where
 moved-requires : tie.Need-moved-requires
 moved-requires c κs =
     let low = read-place (bytes c) (there c) _ _ _ _ _ (head c) (listed c) (readings c) (set c) (sum c) in
-    rw (c .refusal .ensures) (search needs)
+    (third-low (bytes c) (there c), rw (c .refusal .ensures) (search needs))
 
 returns-2 : tie.Need-returns-2
 returns-2 c =
@@ -85,11 +89,11 @@ read-refusal-spec =
     (λ c κs. search needs)
     (λ c κs. search needs)
     (λ c κs. search needs)
-    (λ c. search needs)
+    (λ c. omega (arith, low (c .before)))
     (λ c κs. search needs)
-    (λ c. search needs)
+    (λ c. omega (arith, low (c .before .before)))
     (λ c κs. search needs)
-    (λ c. search needs)
+    (λ c. omega (arith, low (c .before .before .before)))
     (λ c. search needs)
     (λ c κs. search needs)
     (λ c. search needs)

@@ -1,10 +1,10 @@
--- `job::field_refusal` meets its contract: each arm is told which answer `take` gave, and an answer has the verdict of its tests.
+-- `fields::field_refusal` meets its contract: each arm is told which answer `take` gave, and an answer has the verdict of its tests.
 -- Assumes nothing.
 use mathlib.Core.Path.{sym, _∙_}
 use borrow.Author.Needs.{needs}
 use Rattle.reader.proofs.Within.{found-accepts, unfit-refuses}
-use Rattle.job.proofs.field_refusal.Statement.{statement}
-use Rattle.job.proofs.field_refusal.Tie as tie
+use Rattle.fields.proofs.field_refusal.Statement.{statement}
+use Rattle.fields.proofs.field_refusal.Tie as tie
 
 returns : tie.Need-returns
 returns c = rw (found-accepts _ _ _ _ _ _ (sym (c .before .before .take .ensures) ∙ c .enum-told .given .1)) (search needs)

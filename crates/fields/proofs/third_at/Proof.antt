@@ -1,11 +1,11 @@
--- `job::third_at` meets its contract: two bytes are at most 255 each, and so their product fits.
+-- `fields::third_at` meets its contract: two bytes are at most 255 each, and so their product fits.
 -- Assumes nothing.
 use Prim.Native.Nat.{_*_, _≤_}
 use native.Mathlib.Nat.{mul-le-mul}
 use native.Mathlib.Omega.{arith}
 use borrow.Author.Needs.{needs}
-use Rattle.job.proofs.third_at.Statement.{statement}
-use Rattle.job.proofs.third_at.Tie as tie
+use Rattle.fields.proofs.third_at.Statement.{statement}
+use Rattle.fields.proofs.third_at.Tie as tie
 
 -- the two factors
 factors : (c : tie.After-byte2) → 2 * c .before .byte .result * c .byte2 .result ≤ 510 * 255
@@ -21,7 +21,7 @@ add-result : tie.Need-add-result
 add-result c = omega (arith, factors c)
 
 returns : tie.Need-returns
-returns c = (rw (← (c .before .byte .ensures), ← (c .byte2 .ensures)) (search needs), omega (arith, factors c))
+returns c = rw (← (c .before .byte .ensures), ← (c .byte2 .ensures)) (search needs)
 
 pub third-at-spec : {M : Type 1} → statement M
 third-at-spec =

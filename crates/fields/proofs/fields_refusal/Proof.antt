@@ -1,6 +1,6 @@
--- `job::fields_refusal` meets its contract: each way out is one law of the fields, by what the tests before it answered.
+-- `fields::fields_refusal` meets its contract: each way out is one law of the fields, by what the tests before it answered.
 -- Assumes nothing.
-use Prim.Native.Nat.{ℕ, _*_}
+use Prim.Native.Nat.{ℕ, _*_, _≤_}
 use mathlib.Core.Path.{_≡_, sym, ap, _∙_}
 use native.Mathlib.Omega.{arith}
 use borrow.Author.Needs.{needs}
@@ -8,38 +8,46 @@ use denote.Ref.{now}
 use Rattle.meaning.specs.Design.{blocks, listLength}
 use Rattle.meaning.specs.Refusals.{accepted, refused, _⨾_, sizes}
 use Rattle.meaning.specs.File.{fieldVerdict, headOf, secondAt, thirdAt, fourthAt}
-use Rattle.job.proofs.Fields.{second-field, third-field, fourth-field, head-refuses, second-refuses, third-refuses, fourth-refuses, more-refuses, fields-accept}
-use Rattle.job.proofs.fields_refusal.Statement.{statement}
-use Rattle.job.proofs.fields_refusal.Tie as tie
+use Rattle.fields.proofs.Order.{head-fits, third-most, second-field, third-field, fourth-field, head-refuses, second-refuses, third-refuses, fourth-refuses, more-refuses, fields-accept}
+use Rattle.fields.proofs.fields_refusal.Statement.{statement}
+use Rattle.fields.proofs.fields_refusal.Tie as tie
 
--- what is known once the first, second, third and fourth field were found
+-- the first field was found, and its sizes fit
 first : (c : tie.After-enum-told) → let s = now (c .before .before .before .before .args .bytes) in fieldVerdict s 0 1 4 ⨾ sizes (headOf s) ≡ accepted
 first c = sym (c .before .before .head-refusal .ensures) ∙ c .enum-told .given .1
 
+-- so the places and the number of readings are small
+third-low : (c : tie.After-third-at) → c .third-at .result ≤ 3210
+third-low c = omega (arith, c .third-at .ensures, third-most (now (c .before .before .before .before .before .args .bytes)) (head-fits _ (first (c .before))))
+
+count-low : (c : tie.After-block-count) → c .block-count .result ≤ 1300
+count-low c = omega (arith, c .block-count .ensures, head-fits (now (c .before .before .before .before .before .before .args .bytes)) (first (c .before .before)) .blocks-most)
+
+-- what is known once the second, third and fourth field were found
 second : (c : tie.After-enum-told2) → let s = now (c .before .before .before .before .before .before .before .before .before .args .bytes) in fieldVerdict s secondAt 2 (listLength (headOf s)) ≡ accepted
-second c = sym (second-field _ _ (c .before .before .before .before .third-at .ensures .0)) ∙ sym (c .before .before .field-refusal .ensures) ∙ c .enum-told2 .given .1
+second c = sym (second-field _ _ (c .before .before .before .before .third-at .ensures)) ∙ sym (c .before .before .field-refusal .ensures) ∙ c .enum-told2 .given .1
 
 third : (c : tie.After-enum-told3) → let s = now (c .before .before .before .before .before .before .before .before .before .before .before .before .args .bytes) in fieldVerdict s (thirdAt s) 3 16 ≡ accepted
-third c = sym (third-field _ _ (c .before .before .before .before .before .before .before .third-at .ensures .0)) ∙ sym (c .before .before .field-refusal2 .ensures) ∙ c .enum-told3 .given .1
+third c = sym (third-field _ _ (c .before .before .before .before .before .before .before .third-at .ensures)) ∙ sym (c .before .before .field-refusal2 .ensures) ∙ c .enum-told3 .given .1
 
 fourth : (c : tie.After-enum-told4) → let s = now (c .before .before .before .before .before .before .before .before .before .before .before .before .before .before .before .args .bytes) in fieldVerdict s (fourthAt s) 4 (4 * blocks (headOf s)) ≡ accepted
-fourth c = sym (fourth-field _ _ (c .before .before .before .before .before .before .before .before .before .before .third-at .ensures .0) _ (c .before .before .before .before .before .before .before .before .before .block-count .ensures .0)) ∙ sym (c .before .before .field-refusal3 .ensures) ∙ c .enum-told4 .given .1
+fourth c = sym (fourth-field _ _ (c .before .before .before .before .before .before .before .before .before .before .third-at .ensures) _ (c .before .before .before .before .before .before .before .before .before .block-count .ensures)) ∙ sym (c .before .before .field-refusal3 .ensures) ∙ c .enum-told4 .given .1
 
 returns : tie.Need-returns
 returns c = rw (head-refuses _ _ _ (sym (c .before .before .before .head-refusal .ensures) ∙ c .before .number .given .1)) (search needs)
 
 returns-2 : tie.Need-returns-2
 returns-2 c =
-    rw (second-refuses _ (first (c .before .before .before .before .before .before)) _ _ (sym (second-field _ _ (c .before .before .before .before .before .third-at .ensures .0)) ∙ sym (c .before .before .before .field-refusal .ensures) ∙ c .before .number2 .given .1)) (search needs)
+    rw (second-refuses _ (first (c .before .before .before .before .before .before)) _ _ (sym (second-field _ _ (c .before .before .before .before .before .third-at .ensures)) ∙ sym (c .before .before .before .field-refusal .ensures) ∙ c .before .number2 .given .1)) (search needs)
 
 returns-3 : tie.Need-returns-3
 returns-3 c =
-    rw (third-refuses _ (first (c .before .before .before .before .before .before .before .before .before)) (second (c .before .before .before .before)) _ _ (sym (third-field _ _ (c .before .before .before .before .before .before .before .before .third-at .ensures .0)) ∙ sym (c .before .before .before .field-refusal2 .ensures) ∙ c .before .number3 .given .1)) (search needs)
+    rw (third-refuses _ (first (c .before .before .before .before .before .before .before .before .before)) (second (c .before .before .before .before)) _ _ (sym (third-field _ _ (c .before .before .before .before .before .before .before .before .third-at .ensures)) ∙ sym (c .before .before .before .field-refusal2 .ensures) ∙ c .before .number3 .given .1)) (search needs)
 
 returns-4 : tie.Need-returns-4
 returns-4 c =
     rw (fourth-refuses _ (first (c .before .before .before .before .before .before .before .before .before .before .before .before)) (second (c .before .before .before .before .before .before .before)) (third (c .before .before .before .before)) _ _
-    (sym (fourth-field _ _ (c .before .before .before .before .before .before .before .before .before .before .before .third-at .ensures .0) _ (c .before .before .before .before .before .before .before .before .before .before .block-count .ensures .0)) ∙ sym (c .before .before .before .field-refusal3 .ensures) ∙ c .before .number4 .given .1)) (search needs)
+    (sym (fourth-field _ _ (c .before .before .before .before .before .before .before .before .before .before .before .third-at .ensures) _ (c .before .before .before .before .before .before .before .before .before .before .block-count .ensures)) ∙ sym (c .before .before .before .field-refusal3 .ensures) ∙ c .before .number4 .given .1)) (search needs)
 
 returns-5 : tie.Need-returns-5
 returns-5 c = rw (more-refuses _ (first (c .before .before .before .before .before .before .before .before .before .before .before .before)) (second (c .before .before .before .before .before .before .before)) (third (c .before .before .before .before)) (fourth (c .before)) (λ e. omega arith)) (ap (λ (at : ℕ). refused 9 at) (omega arith))
@@ -56,11 +64,11 @@ fields-refusal-spec =
     returns
     (λ c. search needs)
     (λ c κs. search needs)
-    (λ c. search needs)
+    (λ c. omega (arith, third-low c))
     (λ c κs. search needs)
-    (λ c. search needs)
-    (λ c. search needs)
-    (λ c. search needs)
+    (λ c. omega (arith, count-low c))
+    (λ c. omega (arith, third-low (c .before)))
+    (λ c. omega (arith, third-low (c .before), count-low c))
     (λ c. search needs)
     (λ c κs. search needs)
     (λ c. search needs)

@@ -1,14 +1,14 @@
--- `job::head_refusal` meets its contract: each way out rewrites the chain by the tests that led there.
+-- `fields::head_refusal` meets its contract: each way out rewrites the chain by the tests that led there.
 -- Assumes nothing.
-use mathlib.Core.Path.{_≡_, sym, ap, _∙_}
+use mathlib.Core.Path.{_≡_, sym, _∙_}
 use borrow.Author.Tests.{not-true, not-false}
 use borrow.Author.Needs.{needs}
 use denote.Ref.{now}
 use Rattle.meaning.specs.Design.{sized}
 use Rattle.meaning.specs.Refusals.{accepted}
 use Rattle.meaning.specs.File.{fieldVerdict}
-use Rattle.job.proofs.head_refusal.Statement.{statement}
-use Rattle.job.proofs.head_refusal.Tie as tie
+use Rattle.fields.proofs.head_refusal.Statement.{statement}
+use Rattle.fields.proofs.head_refusal.Tie as tie
 
 -- past the first test the field is there
 passed : (c : tie.After-enum-told) → fieldVerdict (now (c .before .before .before .before .args .bytes)) 0 1 4 ≡ accepted

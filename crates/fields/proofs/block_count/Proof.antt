@@ -1,11 +1,11 @@
--- `job::block_count` meets its contract: two bytes are at most 255 each, and so their product fits.
+-- `fields::block_count` meets its contract: two bytes are at most 255 each, and so their product fits.
 -- Assumes nothing.
 use Prim.Native.Nat.{_*_, _≤_}
 use native.Mathlib.Nat.{mul-le-mul}
 use native.Mathlib.Omega.{arith}
 use borrow.Author.Needs.{needs}
-use Rattle.job.proofs.block_count.Statement.{statement}
-use Rattle.job.proofs.block_count.Tie as tie
+use Rattle.fields.proofs.block_count.Statement.{statement}
+use Rattle.fields.proofs.block_count.Tie as tie
 
 -- the two factors
 factors : (c : tie.After-byte2) → c .before .byte .result * c .byte2 .result ≤ 255 * 255
@@ -18,7 +18,7 @@ mul-result : tie.Need-mul-result
 mul-result c = omega (arith, factors c)
 
 returns : tie.Need-returns
-returns c = (rw (← (c .before .byte .ensures), ← (c .byte2 .ensures)) (search needs), omega (arith, factors c))
+returns c = rw (← (c .before .byte .ensures), ← (c .byte2 .ensures)) (search needs)
 
 pub block-count-spec : {M : Type 1} → statement M
 block-count-spec =

@@ -17,6 +17,7 @@ use Rattle.meaning.specs.Fractions.{Fraction, _+ᶠ_, _=ᶠ_, _≤ᶠ_, _<ᶠ_,
 use Rattle.meaning.specs.Refusals.{accepted, refused, test, _⨾_, room, offender, farReading, sumLimit}
 use Rattle.meaning.specs.Calls.{given, written, designVerdict, judgeVerdict, jobVerdict}
 use Rattle.meaning.specs.File.{headOf, secondAt, thirdAt, fourthAt, endAt, blocksAt, readingsAt, blocksOf, setOf, sumOf, readingsOf, fields, readVerdict, solveVerdict}
+use Rattle.meaning.specs.Text.{textOf, benchText}
 use Rattle.laws.proofs.Chains.{judged-sound, job, Job, accepts, test-yes}
 use Rattle.laws.proofs.Counting.{accepts-exactly, balanced-is, parameters}
 use Rattle.laws.proofs.Analysis.{totals-cancel, restraint-kept, q-nonneg, vbeta-some, job-denominator}
@@ -25,6 +26,8 @@ use Rattle.laws.proofs.Sizes.{denominator-most, numerator-most, q-in-range, hun
 use Rattle.laws.proofs.Fractions.{exact-keeps, exact-deviation, exact-squares, exact-proper, squares-proper, least, published-excess}
 use Rattle.laws.proofs.Files.{file-job, job-file}
 use Rattle.quotient.proofs.Floats.{float-near}
+use Rattle.listing.proofs.Cut.{bench-text}
+use Rattle.listing.proofs.Enough.{text-length}
 use Rattle.demands.proofs.Order.{start, tagged, long, body, file-order, rooms-flat, none-exactly}
 
 -- ---- DEMAND 1. For every job file and every direct call it ends without a fault (that is by the language). A bad job is refused by a listed number at a
@@ -48,6 +51,10 @@ refused-in-order s = file-order s
 pub rooms-last : (s : List ℕ) (words values deviations : ℕ) → solveVerdict s words values deviations ≡
     readVerdict s ⨾ room words (2 * blocks (headOf s)) ⨾ room values (objects (headOf s)) ⨾ room deviations (blocks (headOf s))
 rooms-last s words values deviations = rooms-flat s words values deviations
+
+-- what the program prints for any standard input, of which it reads the first 8,192 bytes, is the text of all of it, and that text is never longer than 64 KiB
+pub printed-is-the-text : (input : List ℕ) → (benchText input ≡ textOf input) × (length (textOf input) ≤ 65536)
+printed-is-the-text input = (bench-text input, text-length input)
 
 -- every promise says of a lent buffer that it is what `written` or `given` says under the call's verdict: a refusal leaves it as it was
 pub refusal-changes-nothing : {A : Type 0} (k at c : ℕ) (f : ℕ → A) (after buffer : List A) → (written (refused k at) c f buffer ≡ buffer) × (given (refused k at) after buffer ≡ buffer)

@@ -17,16 +17,16 @@ pub fn deviations(head: Head, blocks: &[u8], readings: &[i32], deviations: &mut 
     ensures { λ r. ⌜ r ≡ deviationsVerdict head (now (blocks .entry)) (now (readings .entry)) (length (now (deviations .entry))) ⌝ }
     ensures { λ r. ⌜ now (deviations .exit) ≡ deviationsUnder (deviationsVerdict head (now (blocks .entry)) (now (readings .entry)) (length (now (deviations .entry)))) head (now (blocks .entry)) (now (readings .entry)) (now (deviations .entry)) ⌝ }
 {
-    let mut words = [0u64; 2600];
-    let mut values = [0i64; 50];
+    let mut developed = [0u64; 2600];
+    let mut numerators = [0i64; 50];
     let solved = analyse(
         head,
         blocks,
         readings,
         1,
         0,
-        &mut words,
-        &mut values,
+        &mut developed,
+        &mut numerators,
         deviations,
     );
     solved.verdict

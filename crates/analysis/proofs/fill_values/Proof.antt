@@ -88,7 +88,7 @@ loop-again : tie.Need-loop-again Inv-loop μ-loop
 loop-again c =
     let l = c .before .before .loop in
     let at : l .i < length (now (start c .args .values)) = omega (arith, start c .pre .1 .0) in
-    (omega arith, over-step (l .i) _ _ (l .inv .1) (all c .reads) at, simp length-set (l .inv .2))
+    (omega arith, over-step (l .i) _ _ (l .inv .1) (search (all c .reads)) at, simp length-set (l .inv .2))
 
 returns : tie.Need-returns Inv-loop μ-loop
 returns c =

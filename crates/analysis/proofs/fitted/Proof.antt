@@ -46,6 +46,10 @@ module _ (c : tie.After-total Inv-loop μ-loop) where
   abbrev so-far : Num
   so-far = local (c .before .before .loop .sum) (i * 260000000) (c .before .before .loop .inv .1) (fitted-small _ _ i (start .args .v) _ (start .pre .0) (omega arith))
 
+loop-again : tie.Need-loop-again Inv-loop μ-loop
+loop-again c =
+    (omega arith, search (plus (so-far c) (term c) (omega (arith, start c .pre .0 .few)) .reads ∙ sym (fitted-more (now (start c .args .totals)) (now (start c .args .words)) (i c) (start c .args .k))))
+
 pub fitted-spec : {M : Type 1} → statement M
 fitted-spec =
     tie.close
@@ -71,5 +75,5 @@ fitted-spec =
     (λ c. plus-fits (so-far c) (term c) (omega (arith, start c .pre .0 .few)))
     (λ c. omega arith)
     (λ c. omega arith)
-    (λ c. (omega arith, plus (so-far c) (term c) (omega (arith, start c .pre .0 .few)) .reads ∙ sym (fitted-more _ _ (i c) _)))
+    loop-again
     (λ c. let e : c .before .loop .i ≡ c .before .before .before .before .args .v = omega arith in cc))

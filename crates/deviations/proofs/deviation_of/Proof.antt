@@ -88,7 +88,7 @@ returns-4 c =
     let a = c .before .before .before .before .before .before in
     let e = sym (solved-verdict a) ∙ c .before .enum-told2 .given .1 in
     deviation-is-given _ _ _ _ _ _ (deviation-readings _ _ _ _ (passed (c .before .before .before .before .before .before .before .before .before .before .before .before)) (there a) ∙ e)
-    (read-back _ (c .numerator .given) ∙ numerator-is a e) (scale-is a e)
+    (read-back _ (c .numerator .given) ∙ numerator-is a e) (search (scale-is a e))
 
 pub deviation-of-spec : {M : Type 1} → statement M
 deviation-of-spec =

@@ -14,7 +14,7 @@ returns : tie.Need-returns
 returns c =
     let s = c .before .before .before .before .before .before .before .before in
     let e = deviations-verdict (s .args .head) (now (s .args .blocks)) (now (s .args .readings)) (length (now (s .args .deviations))) in (
-      ap (λ (r : Solved). r .verdict) (c .before .before .before .analyse .ensures .0) ∙ e,
+      search (ap (λ (r : Solved). r .verdict) (c .before .before .before .analyse .ensures .0) ∙ e),
       c .before .before .before .analyse .ensures .1 .1 .1
           ∙ ap (λ (v : Verdict). deviationsUnder v (s .args .head) (now (s .args .blocks)) (now (s .args .readings)) (now (s .args .deviations))) e,
     )

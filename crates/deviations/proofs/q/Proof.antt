@@ -1,6 +1,7 @@
 -- `q`: Q of the spread, on a refusal too. Assumes nothing.
 use borrow.Author.Needs.{needs}
 use mathlib.Core.Path.{sym, ap, _∙_}
+use denote.Ref.{now}
 use Rattle.meaning.specs.declared.SquareSum.{SquareSum}
 use Rattle.meaning.specs.declared.JobSpread.{JobSpread}
 use Rattle.deviations.proofs.Refusing.{q-of-spread}
@@ -8,7 +9,8 @@ use Rattle.deviations.proofs.q.Statement.{statement}
 use Rattle.deviations.proofs.q.Tie as tie
 
 returns : tie.Need-returns
-returns c = ap (λ (r : JobSpread). record { verdict = r .verdict; sum = r .spreading .q }) (c .spread .ensures) ∙ sym (q-of-spread _ _ _)
+returns c = let a = c .before .before .args in
+    search (ap (λ (r : JobSpread). record { verdict = r .verdict; sum = r .spreading .q }) (c .spread .ensures) ∙ sym (q-of-spread (a .head) (now (a .blocks)) (now (a .readings))))
 
 pub q-spec : {M : Type 1} → statement M
 q-spec = tie.close (tie.spec (λ c κs. search needs) returns)

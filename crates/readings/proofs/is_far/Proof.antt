@@ -7,15 +7,15 @@ use Rattle.readings.proofs.is_far.Statement.{statement}
 use Rattle.readings.proofs.is_far.Tie as tie
 
 returns : tie.Need-returns
-returns c = sym (lt-ltb _ _ (too-low (c .before .args .y) 199999 (rw (toZ-ofZ (c .before .fits .y)) at (c .if1 .taken))))
+returns c = sym (lt-ltb _ _ (too-low (c .before .args .y) 199999 (search (rw (toZ-ofZ (c .before .fits .y)) at (c .if1 .taken)))))
 
 returns-2 : tie.Need-returns-2
-returns-2 c = sym (lt-ltb _ _ (too-high (c .before .before .args .y) 200000 (rw (toZ-ofZ (c .before .before .fits .y)) at (c .if2 .taken))))
+returns-2 c = sym (lt-ltb _ _ (too-high (c .before .before .args .y) 200000 (search (rw (toZ-ofZ (c .before .before .fits .y)) at (c .if2 .taken)))))
 
 returns-3 : tie.Need-returns-3
 returns-3 c =
     let read = toZ-ofZ (c .before .before .fits .y) in
-    sym (le-ltb _ _ (between (c .before .before .args .y) 199999 (rw read at (c .before .if1 .left)) (rw read at (c .if2 .left))))
+    sym (le-ltb _ _ (between (c .before .before .args .y) 199999 (rw read at (c .before .if1 .left)) (search (rw read at (c .if2 .left)))))
 
 pub is-far-spec : {M : Type 1} → statement M
 is-far-spec = tie.close (tie.spec returns returns-2 returns-3)

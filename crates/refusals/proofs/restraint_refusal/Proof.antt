@@ -31,7 +31,7 @@ returns-5 c = let s = c .before .before .before .before .before in
     sym (restrained-yes (s .args .head) (s .args .set) (s .args .sum) (record {
       set-some = omega (arith, c .before .before .before .if1 .left);
       set-inside = inside _ _ (search needs);
-      sum-most = between (s .args .sum) 999999999 (rw read at (c .before .if3 .left)) (rw read at (c .if4 .left));
+      sum-most = between (s .args .sum) 999999999 (rw read at (c .before .if3 .left)) (search (rw read at (c .if4 .left)));
     }))
 
 pub restraint-refusal-spec : {M : Type 1} → statement M

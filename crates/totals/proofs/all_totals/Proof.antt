@@ -113,9 +113,10 @@ returns-4 c =
     let d = develops f in
     let s = start d in
     let e = totals-roomy _ _ _ _ _ (passed (d .before .before .before .before)) (roomy d) (totals-roomy-here f) in
+    let squares-are = laid-squares (head d) (bytes d) (ys d) (now (s .args .totals)) (f .fill .last .1 .1 .1 .1 .0) (totals-roomy-here f) (totalled f) in
     let words = wrote d ∙ sym (given-yes (verdict s) _ _ e) in
     let totals = totalled f ∙ sym (given-yes (verdict s) _ _ e) in
-    (square-accepted (verdict s) (squared s) _ e (c .squared-totals .ensures ∙ laid-squares _ _ _ _ _ (totals-roomy-here f) (totalled f)), (words, totals))
+    (square-accepted (verdict s) (squared s) _ e (search (c .squared-totals .ensures ∙ squares-are)), (words, totals))
 
 pub all-totals-spec : {M : Type 1} → statement M
 all-totals-spec =

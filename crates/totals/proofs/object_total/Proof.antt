@@ -2,6 +2,7 @@
 use mathlib.Core.Path.{_≡_, refl, sym, _∙_}
 use Prim.Native.Nat.{ℕ, _+_, _-_, _*_, _≤_, _<_}
 use native.Mathlib.Omega.{arith}
+use denote.Ref.{now}
 use lib.Dec.{lit<}
 use lib.IntN.{ℤ, pos, natAbs}
 use lib.ListN.{getD}
@@ -55,7 +56,7 @@ module _ (c : tie.After-y Inv-loop μ-loop) where
       (total-small _ _ k (start .args .b) (start .args .i) (start .pre .0) (omega arith))
 
 loop-again : tie.Need-loop-again Inv-loop μ-loop
-loop-again c = (omega arith, plus (sum c) (term c) (omega (arith, start c .pre .0 .blocks-most)) .reads ∙ sym (total-more _ _ (k c) _))
+loop-again c = (omega arith, search (plus (sum c) (term c) (omega (arith, start c .pre .0 .blocks-most)) .reads ∙ sym (total-more (now (start c .args .words)) (now (start c .args .readings)) (k c) (start c .args .i))))
 
 returns : tie.Need-returns Inv-loop μ-loop
 returns c = let e : c .before .loop .k ≡ c .before .before .args .b = omega arith in cc

@@ -85,8 +85,8 @@ returns-4 c =
     let a = c .before .before .before .before .before .before .before in
     let e = sym (solved-verdict a) ∙ c .before .before .enum-told2 .given .1 in
     value-is-given _ _ _ _ _ _ _ (value-job _ _ _ _ _ _ (passed (c .before .before .before .before .before .before .before .before .before .before .before .before .before)) (there a) ∙ e)
-    (c .value-from .ensures ∙ ap₂ valueFrom (read-back _ (c .before .value-from-arg .given) ∙ numerator-is a e) (denominator-is a e)
-    ∙ value-from-is _ _ _ _ _ _ (job (head a) (bytes a) (ys a) (start a .args .set) (start a .args .sum) e))
+    (search (c .value-from .ensures ∙ ap₂ valueFrom (read-back _ (c .before .value-from-arg .given) ∙ numerator-is a e) (denominator-is a e)
+    ∙ value-from-is _ _ _ _ _ _ (job (head a) (bytes a) (ys a) (start a .args .set) (start a .args .sum) e)))
 
 pub value-of-spec : {M : Type 1} → statement M
 value-of-spec =

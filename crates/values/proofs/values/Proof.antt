@@ -18,7 +18,7 @@ returns c =
     let s = c .before .before .before .before .before .before .before .before in
     let read = toZ-ofZ (s .fits .sum) in
     let e = values-verdict (s .args .head) (now (s .args .blocks)) (now (s .args .readings)) (s .args .set) (s .args .sum) (length (now (s .args .values))) in (
-      ap (λ (r : Solved). r .verdict) (rw read at (c .before .before .before .analyse .ensures .0)) ∙ e,
+      search (ap (λ (r : Solved). r .verdict) (rw read at (c .before .before .before .analyse .ensures .0)) ∙ e),
       (rw read at (c .before .before .before .analyse .ensures .1 .1 .0))
           ∙ ap (λ (v : Verdict). valuesUnder v (s .args .head) (now (s .args .blocks)) (now (s .args .readings)) (s .args .set) (s .args .sum) (now (s .args .values))) e,
     )

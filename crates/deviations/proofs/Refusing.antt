@@ -18,7 +18,7 @@ use Rattle.meaning.specs.declared.BlockDeviation.{BlockDeviation}
 use Rattle.meaning.specs.Design.{objects, blocks}
 use Rattle.meaning.specs.Analysis.{deviationOf, vbeta, qOf}
 use Rattle.meaning.specs.Refusals.{_⨾_, accepted, refused, clean, inBalance, restraint, inReach, exists, room}
-use Rattle.meaning.specs.Calls.{given, slices, contents, jobVerdict, readingsVerdict, rooms, analyseVerdict, deviationsVerdict, deviationVerdict, deviationAnswer, spreadingOf, noSpreading, spreadAnswer, qAnswer, squareSum}
+use Rattle.meaning.specs.Calls.{given, slices, contents, jobVerdict, readingsVerdict, rooms, analyseVerdict, solvedUnder, deviationsVerdict, deviationVerdict, deviationAnswer, spreadingOf, noSpreading, spreadAnswer, qAnswer, squareSum}
 use Rattle.laws.specs.Fits.{Fits}
 use Rattle.laws.proofs.Chains.{opened, accepts, goes-on, refused-stays, chained, accepted-last, test-yes, test-no, sliced, measured}
 use Rattle.refusals.proofs.Jobs.{restrained-yes}
@@ -97,6 +97,10 @@ module _ (h : Head) (d : List ℕ) (y : List ℤ) where
   -- a spread under its verdict
   abbrev pub spread-under : Verdict → JobSpread
   spread-under v = record { verdict = v; spreading = given v (spreadingOf h d y) noSpreading }
+
+  -- a job worked out with rooms for the largest has the spread of the definition
+  pub spread-of-solved : (r : Solved) → r ≡ solvedUnder (analyseVerdict h d y 1 (pos 0) 2600 50 1300) h d y 1 → _≡_ {A = JobSpread} (record { verdict = r .verdict; spreading = r .spreading }) (spreadAnswer h d y)
+  spread-of-solved r e = ap (λ (r : Solved). record { verdict = r .verdict; spreading = r .spreading }) e ∙ ap spread-under spread-verdict
 
   -- Q is that of the spread, on a refusal too
   pub q-of-spread : squareSum (readingsVerdict h d y) (qOf h d y) ≡ record { verdict = readingsVerdict h d y; sum = spreadAnswer h d y .spreading .q }

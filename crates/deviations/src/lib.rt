@@ -83,18 +83,18 @@ pub fn q(head: Head, blocks: &[u8], readings: &[i32]) -> SquareSum
 pub fn spread(head: Head, blocks: &[u8], readings: &[i32]) -> JobSpread
     ensures { λ r. ⌜ r ≡ spreadAnswer head (now (blocks .entry)) (now (readings .entry)) ⌝ }
 {
-    let mut words = [0u64; 2600];
-    let mut values = [0i64; 50];
-    let mut deviations = [0i64; 1300];
+    let mut word_room = [0u64; 2600];
+    let mut value_room = [0i64; 50];
+    let mut deviation_room = [0i64; 1300];
     let solved = analyse(
         head,
         blocks,
         readings,
         1,
         0,
-        &mut words,
-        &mut values,
-        &mut deviations,
+        &mut word_room,
+        &mut value_room,
+        &mut deviation_room,
     );
     let verdict = solved.verdict;
     let spreading = solved.spreading;

@@ -5,7 +5,7 @@ use Rattle.readings.proofs.reach_refusal.Statement.{statement}
 use Rattle.readings.proofs.reach_refusal.Tie as tie
 
 returns : tie.Need-returns
-returns c = rw (← (c .before .far-reading .ensures), ne-eqb _ _ (c .if1 .taken))
+returns c = rw (← (c .before .far-reading .ensures), ne-eqb _ _ (c .if1 .taken)) (search needs)
 
 returns-2 : tie.Need-returns-2
 returns-2 c = rw (← (c .before .far-reading .ensures), eq-eqb _ _ (c .if1 .left))

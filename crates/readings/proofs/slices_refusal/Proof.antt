@@ -16,7 +16,7 @@ passed c = sym (c .before .sized .ensures) ∙ not-false _ (c .if1 .left)
 
 returns : tie.Need-returns
 unfolding slices
-returns c = rw (sym (c .before .sized .ensures) ∙ not-true _ (c .if1 .taken))
+returns c = rw (sym (c .before .sized .ensures) ∙ not-true _ (c .if1 .taken)) (search needs)
 
 returns-2 : tie.Need-returns-2
 unfolding slices

@@ -19,14 +19,15 @@ use Rattle.laws.proofs.Files.{read-moved, solve-moved}
 use Rattle.job.proofs.Places.{job-place, analyse-place, file-most, given-placed, solved-placed}
 use Rattle.numbers.proofs.Rows.{take-numbers}
 
--- what stands three bytes after the third field's start is the restraint set, and eight bytes on its sum
+-- what stands three bytes after the third field's start is the restraint set
 pub set-part : (s : List ℕ) (third w : ℕ) → third ≡ thirdAt s → w ≡ big s (third + 3) 8 → w ≡ setOf s
 set-part s third w e p = rw e at p
 
+-- and eight bytes on its sum
 pub sum-part : (s : List ℕ) (third : ℕ) (M : ℤ) → third ≡ thirdAt s → M ≡ twos 64 (big s (third + 11) 8) → M ≡ sumOf s
 sum-part s third M e p = rw e at p
 
--- the bytes from the tenth up to the third field are the blocks
+-- the bytes from place 10 up to the third field are the blocks
 pub blocks-part : (s : List ℕ) (third : ℕ) → third ≡ thirdAt s → take (third - 10) (drop 10 s) ≡ blocksOf s
 blocks-part s third e = let c : third - 10 ≡ listLength (headOf s) = omega (arith, e) in ap (λ (c : ℕ). take c (drop 10 s)) c
 
@@ -55,11 +56,9 @@ module _ (s : List ℕ) (there : fields s ≡ accepted) (h : Head) (d : List ℕ
 
   -- the same with rooms
   module _ (words values deviations : ℕ) where
+    -- its refusals have places below those of the two slices' ends
     pub solve-place : place (analyseVerdict h d y w M words values deviations) ≤ 4500
     solve-place = rw (head, listed, readings) (omega (arith, analyse-place (headOf s) (blocksOf s) (readingsOf s) w M words values deviations, file-most s there))
-
-    pub solve-direct : placed s (analyseVerdict h d y w M words values deviations) ≡ solveVerdict s words values deviations
-    solve-direct = rw (head, listed, readings, set, sum) (sym (solve-moved s words values deviations there))
 
     -- what is given under its verdict is given under that of solving
     direct-given : {A : Type 0} (answer nothing : A)
@@ -74,15 +73,17 @@ module _ (s : List ℕ) (there : fields s ≡ accepted) (h : Head) (d : List ℕ
         rw (v, rw (head, listed, readings, set, sum) at e, solve-moved s words values deviations there)
         (solved-placed s (analyseVerdict (headOf s) (blocksOf s) (readingsOf s) (setOf s) (sumOf s) words values deviations) (headOf s) (blocksOf s) (readingsOf s) (setOf s))
 
-    -- and so are the words, the values and the deviations that it leaves
+    -- the words that it leaves are those of solving
     pub words-direct : (l after : List ℕ) → after ≡ wordsUnder (analyseVerdict h d y w M words values deviations) h d l
         → after ≡ wordsUnder (solveVerdict s words values deviations) (headOf s) (blocksOf s) l
     words-direct l after e = (rw (head, listed, readings, set, sum) at e) ∙ direct-given _ _
 
+    -- the values too
     pub values-direct : (l after : List ℤ) → after ≡ valuesUnder (analyseVerdict h d y w M words values deviations) h d y w M l
         → after ≡ valuesUnder (solveVerdict s words values deviations) (headOf s) (blocksOf s) (readingsOf s) (setOf s) (sumOf s) l
     values-direct l after e = (rw (head, listed, readings, set, sum) at e) ∙ direct-given _ _
 
+    -- and the deviations
     pub deviations-direct : (l after : List ℤ) → after ≡ deviationsUnder (analyseVerdict h d y w M words values deviations) h d y l
         → after ≡ deviationsUnder (solveVerdict s words values deviations) (headOf s) (blocksOf s) (readingsOf s) l
     deviations-direct l after e = (rw (head, listed, readings, set, sum) at e) ∙ direct-given _ _

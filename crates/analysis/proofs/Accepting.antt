@@ -2,15 +2,15 @@
 use mathlib.Core.Path.{_≡_, refl, sym, ap, ap₂, _∙_, subst}
 use mathlib.Core.Bool.{true}
 use mathlib.Core.List.{List}
-use Prim.Native.Nat.{ℕ, _+_, _-_, _*_, _^_, _≤_, _<_}
+use Prim.Native.Nat.{ℕ, _+_, _-_, _*_, _≤_, _<_}
 use native.Mathlib.Omega.{arith}
 use borrow.Author.Tests.{le-leb, lt-leb, leb-true}
-use lib.Dec.{leb, eqb}
+use lib.Dec.{leb}
 use lib.ListN.{getD, length}
-use lib.IntN.{ℤ, pos, natAbs, _+ℤ_, _-ℤ_, _*ℤ_}
+use lib.IntN.{ℤ, pos, natAbs, _-ℤ_, _*ℤ_}
 use Rattle.algebra.specs.Ranges.{sum}
 use Rattle.algebra.specs.Buffers.{over}
-use Rattle.algebra.proofs.Filling.{over-ext, getD-over, length-over}
+use Rattle.algebra.proofs.Filling.{getD-over, length-over}
 use Rattle.algebra.proofs.Solver.{_⊕_, _⊗_, _⊝_, #, _≐_, ring₃}
 use Rattle.algebra.proofs.Order.{pos-inj, comb₁}
 use Rattle.algebra.proofs.Bounds.{sum-squares}
@@ -21,19 +21,18 @@ use Rattle.meaning.specs.declared.Parameters.{Parameters}
 use Rattle.meaning.specs.declared.Spreading.{Spreading}
 use Rattle.meaning.specs.declared.Solved.{Solved}
 use Rattle.meaning.specs.Design.{objects, blocks, listLength, balanced, company, opposition, beta, parametersOf}
-use Rattle.meaning.specs.Analysis.{sq, reading, sign, total, member, members, restrained, numerator, vbeta, numeratorOf, denominatorOf, difference, deviationOf, squaredReadings, squaredTotals, qOf, freedom, spreadHundredthsOf}
+use Rattle.meaning.specs.Analysis.{reading, total, member, members, restrained, numerator, vbeta, numeratorOf, denominatorOf, difference, deviationOf, squaredReadings, squaredTotals, qOf, freedom, spreadHundredthsOf}
 use Rattle.meaning.specs.Publishing.{spreadOf}
 use Rattle.meaning.specs.Refusals.{_⨾_, accepted, refused, sizes, lengthIs, clean, inBalance, restraint, inReach, room}
-use Rattle.meaning.specs.Calls.{given, slices, contents, jobVerdict, squaredReadingsVerdict, squaredTotalsVerdict, spreadingOf, rooms, analyseVerdict, solvedUnder}
+use Rattle.meaning.specs.Calls.{slices, contents, jobVerdict, squaredReadingsVerdict, squaredTotalsVerdict, spreadingOf, rooms, analyseVerdict, solvedUnder}
 use Rattle.laws.specs.Fits.{Fits}
-use Rattle.laws.proofs.Chains.{Sound, Readings, Job, opened, held, accepts, goes-on, refused-stays, test-yes, test-no, accepted-last, job, sliced}
-use Rattle.laws.proofs.Counting.{Numbers, parameters}
+use Rattle.laws.proofs.Chains.{Sound, Readings, opened, held, accepts, goes-on, refused-stays, test-yes, test-no, accepted-last, job}
+use Rattle.laws.proofs.Counting.{parameters}
 use Rattle.laws.proofs.Matrix.{difference-signs}
 use Rattle.laws.proofs.Analysis.{vbeta-some, q-nonneg}
 use Rattle.laws.proofs.Sizes.{vbeta-most, total-most, q-most}
-use Rattle.spread.specs.Hundredths.{spreadingFrom, hundredthsFrom}
+use Rattle.spread.specs.Hundredths.{spreadingFrom}
 use Rattle.spread.proofs.Range.{Ranged, hundredths-is}
-use Rattle.totals.specs.Developed.{signIn}
 use Rattle.totals.proofs.Developing.{Laid}
 use Rattle.analysis.specs.Worked.{totalAt, Totalled, numeratorIn, fittedIn, deviationIn, solution, noSolution}
 
@@ -211,12 +210,15 @@ module _ (h : Head) (d : List ℕ) (s : Sound h d) (b : balanced h d ≡ true) (
 -- ---- rooms that are always long enough
 
 module _ (h : Head) (f : Fits h) where
+  -- 2600 words are enough
   words-enough : room 2600 (2 * blocks h) ≡ accepted
   words-enough = test-yes (leb (2 * blocks h) 2600) 10 0 (le-leb (2 * blocks h) 2600 (omega (arith, f .blocks-most)))
 
+  -- 50 values are
   values-enough : room 50 (objects h) ≡ accepted
   values-enough = test-yes (leb (objects h) 50) 10 0 (le-leb (objects h) 50 (f .objects-most))
 
+  -- 1300 deviations are
   deviations-enough : room 1300 (blocks h) ≡ accepted
   deviations-enough = test-yes (leb (blocks h) 1300) 10 0 (le-leb (blocks h) 1300 (f .blocks-most))
 

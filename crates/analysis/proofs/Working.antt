@@ -1,13 +1,13 @@
 -- Sums over a room of totals: how a loop builds one, and how large it is. Assumes nothing.
-use mathlib.Core.Path.{_≡_, refl, sym, ap, _∙_}
+use mathlib.Core.Path.{_≡_}
 use mathlib.Core.List.{List}
-use Prim.Native.Nat.{ℕ, _+_, _*_, _^_, _≤_, _<_}
+use Prim.Native.Nat.{ℕ, _+_, _*_, _≤_}
 use native.Mathlib.Nat.{le-trans}
 use native.Mathlib.Omega.{arith}
 use lib.IntN.{ℤ, pos, natAbs, _+ℤ_, _*ℤ_}
 use Rattle.algebra.proofs.Sums.{sum-none, sum-more}
 use Rattle.algebra.proofs.Bounds.{abs-*-le, abs-sum}
-use Rattle.meaning.specs.Analysis.{member, members, restrained}
+use Rattle.meaning.specs.Analysis.{member, restrained}
 use Rattle.totals.specs.Developed.{signIn}
 use Rattle.totals.proofs.Developing.{sign-most}
 use Rattle.analysis.specs.Worked.{totalAt, Totalled, fittedIn}

@@ -35,9 +35,10 @@ fittedIn words totals v k = sum v (λ i. signIn words k i *ℤ totalAt totals i)
 abbrev pub deviationIn : List ℕ → List ℤ → List ℤ → ℕ → ℕ → ℕ → ℤ
 deviationIn words y totals v vb k = pos vb *ℤ reading y k -ℤ fittedIn words totals v k
 
--- the record of an accepted job, and that of a refusal
+-- the record of an accepted job
 abbrev pub solution : Head → List ℕ → List ℤ → ℕ → Solved
 solution h d y w = record { verdict = accepted; parameters = parametersOf h d; denominator = denominatorOf h d w; spreading = spreadingOf h d y }
 
+-- that of a refusal
 abbrev pub noSolution : Verdict → Solved
 noSolution verdict = record { verdict = verdict; parameters = noParameters; denominator = 0; spreading = noSpreading }

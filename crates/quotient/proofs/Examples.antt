@@ -8,10 +8,12 @@ use lib.Ieee.{fin, round}
 use Rattle.algebra.specs.Ranges.{eqZ}
 use Rattle.quotient.specs.Quotient.{exact, quotientOf, hundredthsOf}
 
+-- 2 / 3
 two-thirds : quotientOf (pos 2) 3 ≡ fin false 6004799503160661 (negsuc 52)
 unfolding quotientOf exact round
 two-thirds = refl
 
+-- -1 / 3
 minus-third : quotientOf (negsuc 0) 3 ≡ fin true 6004799503160661 (negsuc 53)
 unfolding quotientOf exact round
 minus-third = refl
@@ -27,6 +29,7 @@ record Row : Type 0 where
   bottom : ℕ
   hundredths : ℤ
 
+-- a row from its three numbers
 abbrev row : ℤ → ℕ → ℤ → Row
 row a d k = record { top = a; bottom = d; hundredths = k }
 
@@ -37,14 +40,17 @@ rows =
     ∷ row (negsuc 4) 200 (negsuc 1) ∷ row (pos 1) 3 (pos 33) ∷ row (negsuc 1) 3 (negsuc 66) ∷ row (pos 1) 0 (pos 0) ∷ row (pos 9007199254740992) 1 (pos 0)
     ∷ row (pos 9007199254740991) 1 (pos 900719925474099100) ∷ row (pos 1) 9007199254740992 (pos 0) ∷ []
 
+-- a row agrees with the definition
 abbrev agrees : Row → Bool
 unfolding hundredthsOf exact
 agrees r = eqZ (hundredthsOf (r .top) (r .bottom)) (r .hundredths)
 
+-- all rows do
 abbrev every : List Row → Bool
 every [] = true
 every (r ∷ rs) = agrees r && every rs
 
+-- they do
 hundredths-rows : every rows ≡ true
 unfolding hundredthsOf exact
 hundredths-rows = refl

@@ -31,6 +31,7 @@ Cmp Ordering·lt a b = a < b
 Cmp Ordering·eq a b = a ≡ b
 Cmp Ordering·gt a b = b < a
 
+-- it says so
 cmp : (a b : ℕ) → Cmp (compare a b) a b
 cmp a b = go (compare a b) (leb→le a b) (nleb→lt a b) (eqb→eq a b) (λ (e : a ≡ b). subst (λ (x : ℕ). T (eqb a x)) e (eqb-refl a))
   where
@@ -51,6 +52,7 @@ half Ordering·eq q x y b e c l = tie (q % 2) (omega arith)
     tie (suc (suc t)) h = omega arith
 half Ordering·gt q x y b e c l = omega arith
 
+-- so is the nearest whole number, of any fraction
 closest-near : (a b : ℕ) → 0 < b → gap (closest a b * b) a * 2 ≤ b
 closest-near a b B =
     subst (λ (z : ℕ). gap (closest a b * b) z * 2 ≤ b) (div-add-mod' a b)
@@ -84,9 +86,11 @@ twice (suc p) h = ap (λ (z : ℕ). 2 * 2 ^ z) (less p) ∙ sym (pow-succ' 2 p)
     less : (k : ℕ) → suc k - 1 ≡ k
     less k = omega arith
 
+-- what is cut off leaves the largest digit
 under-size : (z p : ℕ) → 0 < p → p ≤ z → p - 1 + (z - p) < z
 under-size z p P h = omega arith
 
+-- the digits that are kept are within one part in 2 ^ p
 kept-near : (p N d : ℕ) → 0 < p → 0 < d → p ≤ size (N / d) → gap (kept p N d * 2 ^ drop p N d * d) N * 2 ^ p ≤ N
 kept-near p N d P D h =
     let k = drop p N d in
@@ -99,6 +103,7 @@ kept-near p N d P D h =
     let f : gap (q * u) N * 2 * 2 ^ (p - 1) ≡ gap (q * u) N * 2 ^ p = mul-assoc (gap (q * u) N) 2 (2 ^ (p - 1)) ∙ ap (λ (z : ℕ). gap (q * u) N * z) (twice p P) in
     subst (λ (z : ℕ). gap z N * 2 ^ p ≤ N) (sym e) (le-trans (le-of-eq (sym f)) (le-trans c (le-trans (le-of-eq (sym b)) a)))
 
+-- so is the rounding, where it does not overflow
 round-near : (f : Format) (s : Bool) (n d : ℕ) → 0 < d → prec f ≤ size (n * 2 ^ low f / d)
     → kept (prec f) (n * 2 ^ low f) d * 2 ^ drop (prec f) (n * 2 ^ low f) d < 2 ^ (low f + suc (emax f)) → NearSize (prec f) (round f s n d) s n d
 round-near f s n d D h o =
@@ -113,10 +118,12 @@ wide : (f : Format) → prec f - 1 + prec f ≤ low f
 wide binary32 = lit≤ tt
 wide binary64 = lit≤ tt
 
+-- and no overflow is near
 tall : (f : Format) → prec f + low f < low f + suc (emax f)
 tall binary32 = lit< tt
 tall binary64 = lit< tt
 
+-- such a fraction has all its digits
 is-normal : (f : Format) (n d : ℕ) → 0 < n → 0 < d → d < 2 ^ prec f → prec f ≤ size (n * 2 ^ low f / d)
 is-normal f n d A D h =
     normal-of-fraction f n d D
@@ -124,9 +131,11 @@ is-normal f n d A D h =
     (le-trans (le-of-eq (sym (pow-add 2 (prec f - 1) (prec f))))
     (le-trans (pow-mono (wide f)) (le-trans (le-mul-of-pos-right (2 ^ low f) A) (le-of-eq (mul-comm (2 ^ low f) n))))))
 
+-- what a size is above p
 spare : (z p l : ℕ) → z ≤ p + l → z - p ≤ l
 spare z p l h = omega arith
 
+-- such a fraction does not overflow
 no-overflow : (f : Format) (n d : ℕ) → n < 2 ^ prec f → kept (prec f) (n * 2 ^ low f) d * 2 ^ drop (prec f) (n * 2 ^ low f) d < 2 ^ (low f + suc (emax f))
 no-overflow f n d h =
     let p = prec f in
@@ -146,9 +155,11 @@ round-zero f s d D = round-same f s 0 d 0 1 D (lit< tt) (zero-mul 1 ∙ sym (zer
     at binary32 = refl
     at binary64 = refl
 
+-- 0 is near 0
 zero-near : (f : Format) (s : Bool) (d : ℕ) → 0 < d → NearSize (prec f) (round f s 0 d) s 0 d
 zero-near f s d D = subst (λ (z : Float). NearSize (prec f) z s 0 d) (sym (round-zero f s d D)) (refl, simp zero-mul (lit≤ tt))
 
+-- the rounding of such a fraction is within one part in 2 ^ p
 whole-near : (f : Format) (s : Bool) (n d : ℕ) → n < 2 ^ prec f → 0 < d → d < 2 ^ prec f → NearSize (prec f) (round f s n d) s n d
 whole-near f s zero d h D k = zero-near f s d D
 whole-near f s (suc n) d h D k = round-near f s (suc n) d D (is-normal f (suc n) d (zero-lt-suc n) D k) (no-overflow f (suc n) d h)
@@ -158,6 +169,7 @@ unlike-false : (s : Bool) → unlike s false ≡ s
 unlike-false true = refl
 unlike-false false = refl
 
+-- the division of two whole numbers is one rounding
 div-at : (f : Format) (x y : Float) (s : Bool) (a b : ℕ) → 0 < b → HasValue x s a 1 → HasValue y false b 1 → div f x y ≡ round f s a b
 unfolding div
 div-at f nan y s a b B v w = absurd v
@@ -195,6 +207,7 @@ unfolding inFloat
 in-float (pos n) h = le→leb n (2 ^ 53) (le-of-lt h)
 in-float (negsuc n) h = lt→ltb n (2 ^ 53) (le-of-lt h)
 
+-- the cast is the number
 of-int-value : (z : ℤ) → natAbs z < 2 ^ 53 → HasValue (ofInt binary64 z) (minus z) (natAbs z) 1
 unfolding ofInt
 of-int-value (pos n) h = round-whole binary64 false n (le-of-lt h)

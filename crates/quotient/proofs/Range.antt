@@ -1,13 +1,13 @@
 -- The exact range as facts, and what the two answers are inside it. Assumes nothing.
-use mathlib.Core.Path.{_≡_, refl, sym, _∙_}
+use mathlib.Core.Path.{_≡_, refl}
 use mathlib.Core.Bool.{Bool, true, false, cond, _&&_}
-use Prim.Native.Nat.{ℕ, zero, suc, _^_, _≤_, _<_}
+use Prim.Native.Nat.{ℕ, _^_, _≤_, _<_}
 use lib.IntN.{ℤ, pos, natAbs}
-use lib.Ieee.{Float, fin, binary64}
+use lib.Ieee.{Float}
 use lib.Dec.{ltb}
 use borrow.Author.Tests.{ltb-true, lt-ltb, le-ltb}
 use Rattle.algebra.proofs.Tests.{and-left, and-right, and-both, and-fails-left, and-fails-right}
-use Rattle.meaning.specs.Publishing.{minus, nearestHundredths, float, floatZero, Near}
+use Rattle.meaning.specs.Publishing.{nearestHundredths, float, floatZero, Near}
 use Rattle.meaning.specs.declared.Value.{Value}
 use Rattle.quotient.specs.Quotient.{exact, quotientOf, hundredthsOf, valueFrom}
 use Rattle.quotient.proofs.Floats.{float-near, float-none}

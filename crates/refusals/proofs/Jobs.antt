@@ -1,22 +1,21 @@
 -- A job's verdict, test by test. Assumes nothing.
-use mathlib.Core.Path.{_≡_, refl, sym, ap, _∙_, subst}
+use mathlib.Core.Path.{_≡_, refl, sym, ap, _∙_}
 use mathlib.Core.Bool.{Bool, true, false, _&&_}
 use mathlib.Core.List.{List}
-use Prim.Native.Nat.{ℕ, _+_, _*_, _/_, _^_, _≤_, _<_}
+use Prim.Native.Nat.{ℕ, _*_, _/_, _^_, _<_}
 use native.Mathlib.Nat.{div-lt-iff-lt-mul}
 use native.Mathlib.Omega.{arith}
-use borrow.Author.Tests.{lt-ltb, le-leb, ltb-true}
+use borrow.Author.Tests.{lt-ltb, le-leb}
 use lib.Dec.{leb, ltb}
 use lib.Pow.{pow-pos}
 use lib.IntN.{ℤ, natAbs}
 use Rattle.algebra.proofs.Tests.{and-both}
 use Rattle.meaning.specs.declared.Head.{Head}
 use Rattle.meaning.specs.declared.Verdict.{Verdict}
-use Rattle.meaning.specs.declared.Judged.{Judged}
 use Rattle.meaning.specs.Design.{objects}
 use Rattle.meaning.specs.Refusals.{_⨾_, accepted, refused, sumLimit, clean, inBalance, restraint, inReach}
-use Rattle.meaning.specs.Calls.{given, slices, contents, jobVerdict, judgeVerdict, designVerdict, judged}
-use Rattle.laws.proofs.Chains.{Restraint, restrains, held, test-yes, test-no, accepts, goes-on, refused-stays}
+use Rattle.meaning.specs.Calls.{slices, contents, jobVerdict, judgeVerdict, judged}
+use Rattle.laws.proofs.Chains.{Restraint, restrains, test-yes, test-no, accepts, goes-on, refused-stays}
 use Rattle.readings.proofs.Answers.{design-clean}
 use Rattle.refusals.specs.Judgement.{judgedUnder, noJudgement}
 

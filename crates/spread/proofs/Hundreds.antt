@@ -61,6 +61,7 @@ module _ {q d a : ℕ} (r : Root q d a) where
   pub rest-fits : 10000 * (q - a * a * d) < 2 ^ 64
   rest-fits = omega (arith, above, ad-small)
 
+  -- what e adds fits too
   pub term-fits : (e : ℕ) → e ≤ 99 → (200 * a + e) * e * d < 2 ^ 64
   term-fits e h = rw term (omega (arith, mul-le-mul h ad-small, mul-le-mul h (mul-le-mul h (r .d-small))))
 

@@ -1,21 +1,21 @@
 -- The range as facts, and the hundredths inside it: the largest whole number whose square, times v·beta·f, is at most 10,000·Q. Assumes nothing.
-use mathlib.Core.Path.{_≡_, refl, sym, ap, _∙_}
+use mathlib.Core.Path.{_≡_, refl, ap, _∙_}
 use mathlib.Core.Bool.{Bool, true, false, cond, _&&_}
 use Prim.Native.Nat.{ℕ, zero, suc, _+_, _*_, _/_, _^_, _≤_, _<_}
 use native.Mathlib.Nat.{mul-le-mul, mul-pos, div-le-self, le-div-iff-mul-le, div-lt-iff-lt-mul, lt-of-le-of-lt, lt-trans}
 use native.Mathlib.Omega.{arith}
 use borrow.Author.Tests.{ltb-true, lt-ltb, leb-true, le-leb}
 use lib.Dec.{ltb, leb, lit<}
-use Rattle.algebra.proofs.Tests.{and-left, and-right, and-both, and-fails-left, and-fails-right}
+use Rattle.algebra.proofs.Tests.{and-left, and-right, and-both}
 use Rattle.meaning.specs.Analysis.{root, spreadHundredths}
 use lib.Ieee.{Float}
 use lib.IntN.{pos}
 use Rattle.meaning.specs.declared.Spreading.{Spreading}
 use Rattle.meaning.specs.declared.Spread.{Spread}
-use Rattle.meaning.specs.declared.Spread.the-variants.{Of, None}
+use Rattle.meaning.specs.declared.Spread.the-variants.{Of}
 use Rattle.meaning.specs.Publishing.{spreadOf}
 use Rattle.quotient.specs.Quotient.{quotientOf}
-use Rattle.quotient.proofs.Range.{Exact, quotient-is}
+use Rattle.quotient.proofs.Range.{quotient-is}
 use Rattle.spread.specs.Hundredths.{ranged, hundredthsFrom, spreadingFrom}
 use Rattle.laws.proofs.Rounding.{root-is, root-largest}
 use Rattle.spread.proofs.Hundreds.{root-lt}

@@ -3,35 +3,30 @@
 --     laid                                    what the words of an accepted design are to its readings
 --     laid-totals, laid-squares               what a room that was filled with the totals holds
 -- Assumes nothing.
-use mathlib.Core.Path.{_≡_, refl, sym, ap, ap₂, _∙_, subst}
+use mathlib.Core.Path.{_≡_, sym, ap, ap₂, _∙_, subst}
 use mathlib.Core.List.{List}
 use Prim.Native.Nat.{ℕ, _+_, _*_, _/_, _%_, _≤_, _<_}
 use native.Mathlib.Nat.{le-trans, le-of-eq}
 use native.Mathlib.Omega.{arith}
-use borrow.Author.Tests.{eq-eqb, ne-eqb, le-leb, lt-leb}
+use borrow.Author.Tests.{eq-eqb, ne-eqb, le-leb}
 use lib.Dec.{leb}
 use lib.ListN.{getD, length}
 use lib.IntN.{ℤ, pos, natAbs, _+ℤ_, _-ℤ_, _*ℤ_}
-use Rattle.algebra.specs.Ranges.{sum, sumℕ}
 use Rattle.algebra.specs.Buffers.{over}
 use Rattle.algebra.proofs.Filling.{over-ext, length-over, getD-over}
 use Rattle.algebra.proofs.Sums.{sum-none, sum-more, sum-cong, sumℕ-cong}
 use Rattle.algebra.proofs.Bounds.{abs-between, abs-*-le, abs-sum, sum-squares}
 use Rattle.meaning.specs.declared.Head.{Head}
-use Rattle.meaning.specs.declared.Verdict.{Verdict}
-use Rattle.meaning.specs.declared.Verdict.the-variants.{Accepted, Refused}
 use Rattle.meaning.specs.Design.{objects, blocks, left, right}
 use Rattle.meaning.specs.Analysis.{reading, sign, total, squaredTotals}
-use Rattle.meaning.specs.Refusals.{_⨾_, accepted, refused, clean, inReach, room}
-use Rattle.meaning.specs.Calls.{word, wordAt, slices, developVerdict, squaredTotalsVerdict}
-use Rattle.laws.specs.Fits.{Fits}
-use Rattle.laws.proofs.Chains.{Sound, Readings, opened, accepts, goes-on, refused-stays, test-yes, test-no, sound-accepted, sliced, slices-sound, slices-readings}
+use Rattle.meaning.specs.Refusals.{accepted, room}
+use Rattle.meaning.specs.Calls.{word, wordAt, developVerdict}
+use Rattle.laws.proofs.Chains.{Sound, Readings, accepts, test-yes, sound-accepted}
 use Rattle.laws.proofs.Clean.{block-once}
 use Rattle.words.specs.Bits.{bit}
 use Rattle.words.proofs.Bits.{bit-most}
 use Rattle.words.proofs.Sides.{bit-word}
 use Rattle.readings.proofs.Squares.{squares}
-use Rattle.totals.specs.Verdicts.{totalsVerdict}
 use Rattle.totals.specs.Developed.{signIn, totalIn, Weighed}
 
 -- ---- over any words
@@ -69,6 +64,7 @@ pub record Developed (h : Head) (d : List ℕ) (words : List ℕ) : Type 0 where
   pub at : (c : ℕ) → c < 2 * blocks h → getD words c 0 ≡ wordAt h d c
 
 module _ (h : Head) (d : List ℕ) (words : List ℕ) (s : Sound h d) (w : Developed h d words) where
+  -- the left word of block k
   left-word : (k : ℕ) → k < blocks h → getD words (2 * k) 0 ≡ word (left h d k)
   unfolding wordAt
   left-word k l =
@@ -76,6 +72,7 @@ module _ (h : Head) (d : List ℕ) (words : List ℕ) (s : Sound h d) (w : Devel
       let half : 2 * k / 2 ≡ k = omega arith in
       w .at (2 * k) (omega arith) ∙ rw (eq-eqb (2 * k % 2) 0 even, half)
 
+  -- its right word
   right-word : (k : ℕ) → k < blocks h → getD words (2 * k + 1) 0 ≡ word (right h d k)
   unfolding wordAt
   right-word k l =

@@ -12,9 +12,8 @@ use Rattle.meaning.specs.declared.Verdict.the-variants.{Accepted, Refused}
 use Rattle.meaning.specs.declared.ObjectTotal.{ObjectTotal}
 use Rattle.meaning.specs.Design.{objects, blocks}
 use Rattle.meaning.specs.Analysis.{total}
-use Rattle.meaning.specs.Refusals.{_⨾_, accepted, refused, clean, inReach, exists, room}
+use Rattle.meaning.specs.Refusals.{_⨾_, accepted, refused, clean, inReach, room}
 use Rattle.meaning.specs.Calls.{given, slices, squaredTotalsVerdict, totalVerdict, totalAnswer}
-use Rattle.laws.specs.Fits.{Fits}
 use Rattle.laws.proofs.Chains.{Sound, Readings, opened, accepts, goes-on, refused-stays, test-yes, test-no, sliced, slices-sound, slices-readings}
 use Rattle.totals.specs.Verdicts.{totalsVerdict, noTotal}
 

@@ -1,7 +1,7 @@
 -- The verdicts of values, from that of a whole job worked out in rooms that are long enough, and the Value of an object. Assumes nothing.
 use mathlib.Core.Path.{_≡_, refl, sym, ap, _∙_}
 use mathlib.Core.List.{List}
-use Prim.Native.Nat.{ℕ, _*_, _≤_, _<_}
+use Prim.Native.Nat.{ℕ, _≤_, _<_}
 use native.Mathlib.Omega.{arith}
 use borrow.Author.Tests.{lt-ltb, le-ltb}
 use lib.Dec.{ltb}
@@ -14,7 +14,7 @@ use Rattle.meaning.specs.declared.ObjectValue.{ObjectValue}
 use Rattle.meaning.specs.Design.{objects, blocks}
 use Rattle.meaning.specs.Analysis.{numeratorOf, denominatorOf}
 use Rattle.meaning.specs.Publishing.{published, valueOf, noValue}
-use Rattle.meaning.specs.Refusals.{_⨾_, accepted, refused, clean, inBalance, restraint, inReach, exists, room}
+use Rattle.meaning.specs.Refusals.{_⨾_, accepted, refused, clean, inBalance, restraint, inReach, room}
 use Rattle.meaning.specs.Calls.{given, slices, contents, jobVerdict, rooms, analyseVerdict, valuesVerdict, valueVerdict, valueAnswer}
 use Rattle.laws.proofs.Chains.{Job, opened, accepts, goes-on, refused-stays, test-yes, test-no, job}
 use Rattle.laws.proofs.Analysis.{job-denominator}

@@ -2,8 +2,7 @@
 use borrow.Author.Needs.{needs}
 use mathlib.Core.Path.{_≡_, sym, ap, _∙_}
 use mathlib.Core.List.{List}
-use Prim.Native.Nat.{ℕ, _*_, _≤_}
-use native.Mathlib.Omega.{arith}
+use Prim.Native.Nat.{ℕ}
 use denote.Ref.{now}
 use lib.IntN.{ℤ}
 use lib.ListN.{length}
@@ -12,12 +11,12 @@ use Rattle.meaning.specs.declared.Head.{Head}
 use Rattle.meaning.specs.declared.Verdict.{Verdict}
 use Rattle.meaning.specs.declared.Judged.{Judged}
 use Rattle.meaning.specs.declared.Solved.{Solved}
-use Rattle.meaning.specs.Design.{objects, blocks, parametersOf}
+use Rattle.meaning.specs.Design.{blocks, parametersOf}
 use Rattle.meaning.specs.Refusals.{accepted, refused}
 use Rattle.meaning.specs.Calls.{noParameters, jobVerdict, rooms, analyseVerdict, solvedUnder, wordsUnder, valuesUnder, deviationsUnder}
-use Rattle.laws.proofs.Chains.{Job, job, given-yes, given-no}
+use Rattle.laws.proofs.Chains.{job, given-yes, given-no}
 use Rattle.refusals.specs.Judgement.{judgedUnder}
-use Rattle.analysis.specs.Worked.{solution, noSolution}
+use Rattle.analysis.specs.Worked.{noSolution}
 use Rattle.analysis.proofs.Accepting.{analyse-refused, analyse-rooms, enough, no-solution-is, solved-is}
 use Rattle.analysis.proofs.analyse.Statement.{statement}
 use Rattle.analysis.proofs.analyse.Tie as tie

@@ -48,7 +48,8 @@ module _ (c : tie.After-total Inv-loop μ-loop) where
 
 loop-again : tie.Need-loop-again Inv-loop μ-loop
 loop-again c =
-    (omega arith, search (plus (so-far c) (term c) (omega (arith, start c .pre .0 .few)) .reads ∙ sym (fitted-more (now (start c .args .totals)) (now (start c .args .words)) (i c) (start c .args .k))))
+    let next = plus (so-far c) (term c) (omega (arith, start c .pre .0 .few)) .reads ∙ sym (fitted-more (now (start c .args .totals)) (now (start c .args .words)) (i c) (start c .args .k)) in
+    (omega arith, cc)
 
 pub fitted-spec : {M : Type 1} → statement M
 fitted-spec =

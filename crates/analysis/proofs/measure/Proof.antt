@@ -1,9 +1,8 @@
 -- `measure`: the two sums of squares give Q, which is not below 0, and Q gives the spread. Assumes nothing.
 use borrow.Author.Needs.{needs}
-use mathlib.Core.Path.{_≡_, sym, ap, ap₂, _∙_}
-use mathlib.Core.Bool.{true}
+use mathlib.Core.Path.{_≡_, ap, ap₂, _∙_}
 use mathlib.Core.List.{List}
-use Prim.Native.Nat.{ℕ, _+_, _-_, _*_, _≤_}
+use Prim.Native.Nat.{ℕ, _-_, _*_, _≤_}
 use native.Mathlib.Nat.{mul-le-mul}
 use native.Mathlib.Omega.{arith}
 use denote.Ref.{now}
@@ -11,10 +10,9 @@ use lib.IntN.{ℤ, natAbs}
 use lib.ListN.{length}
 use Rattle.meaning.specs.declared.Head.{Head}
 use Rattle.meaning.specs.declared.SquareSum.{SquareSum}
-use Rattle.meaning.specs.Design.{objects, blocks}
+use Rattle.meaning.specs.Design.{blocks}
 use Rattle.meaning.specs.Analysis.{vbeta, squaredReadings, squaredTotals, qOf, freedom}
 use Rattle.meaning.specs.Refusals.{accepted}
-use Rattle.meaning.specs.Calls.{squaredReadingsVerdict}
 use Rattle.laws.proofs.Chains.{Sound, Readings, given-yes}
 use Rattle.laws.proofs.Sizes.{vbeta-most, squared-readings-most}
 use Rattle.spread.specs.Hundredths.{spreadingFrom}

@@ -1,7 +1,6 @@
 -- `rooms_refusal`: each way out by its own test. Assumes nothing.
 use borrow.Author.Needs.{needs}
 use mathlib.Core.Path.{sym}
-use native.Mathlib.Omega.{arith}
 use Rattle.analysis.proofs.Accepting.{no-words, no-values, no-deviations, roomy}
 use Rattle.analysis.proofs.rooms_refusal.Statement.{statement}
 use Rattle.analysis.proofs.rooms_refusal.Tie as tie

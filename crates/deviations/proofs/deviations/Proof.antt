@@ -1,6 +1,6 @@
 -- `deviations`: the job worked out in two local rooms and the lent one. Assumes nothing.
 use borrow.Author.Needs.{needs}
-use mathlib.Core.Path.{_≡_, ap, _∙_}
+use mathlib.Core.Path.{ap, _∙_}
 use denote.Ref.{now}
 use lib.ListN.{length}
 use Rattle.meaning.specs.declared.Verdict.{Verdict}
@@ -14,7 +14,7 @@ returns : tie.Need-returns
 returns c =
     let s = c .before .before .before .before .before .before .before .before in
     let e = deviations-verdict (s .args .head) (now (s .args .blocks)) (now (s .args .readings)) (length (now (s .args .deviations))) in (
-      search (ap (λ (r : Solved). r .verdict) (c .before .before .before .analyse .ensures .0) ∙ e),
+      rw (← e) (search (ap (λ (r : Solved). r .verdict) (c .before .before .before .analyse .ensures .0))),
       c .before .before .before .analyse .ensures .1 .1 .1
           ∙ ap (λ (v : Verdict). deviationsUnder v (s .args .head) (now (s .args .blocks)) (now (s .args .readings)) (now (s .args .deviations))) e,
     )

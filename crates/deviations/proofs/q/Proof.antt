@@ -2,7 +2,6 @@
 use borrow.Author.Needs.{needs}
 use mathlib.Core.Path.{sym, ap, _∙_}
 use denote.Ref.{now}
-use Rattle.meaning.specs.declared.SquareSum.{SquareSum}
 use Rattle.meaning.specs.declared.JobSpread.{JobSpread}
 use Rattle.deviations.proofs.Refusing.{q-of-spread}
 use Rattle.deviations.proofs.q.Statement.{statement}

@@ -2,7 +2,7 @@
 use lib.IntN.{pos}
 use mir.Facts.{toZ-ofZ}
 use Rattle.quotient.proofs.Floats.{in-float, quotient-float}
-use Rattle.quotient.proofs.Range.{Exact, exact-is}
+use Rattle.quotient.proofs.Range.{exact-is}
 use Rattle.quotient.proofs.divided.Statement.{statement}
 use Rattle.quotient.proofs.divided.Tie as tie
 

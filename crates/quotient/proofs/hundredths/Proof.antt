@@ -1,14 +1,13 @@
 -- `hundredths`: the nearest whole number to the size's hundredths, with the numerator's sign put back. Assumes nothing.
 use borrow.Author.Needs.{needs}
 use mathlib.Core.Path.{_≡_, sym, ap, _∙_}
-use mathlib.Core.Bool.{true}
 use Prim.Native.Nat.{ℕ, _*_}
 use native.Mathlib.Omega.{arith}
 use lib.IntN.{natAbs}
 use mir.Facts.{toZ-ofZ}
 use Rattle.algebra.proofs.Signs.{read-back}
 use Rattle.meaning.specs.Publishing.{minus, signed, nearest}
-use Rattle.quotient.specs.Quotient.{exact, hundredthsOf}
+use Rattle.quotient.specs.Quotient.{hundredthsOf}
 use Rattle.quotient.proofs.Range.{Exact, exact-is, hundredths-is}
 use Rattle.quotient.proofs.Signed.{nearest-most}
 use Rattle.quotient.proofs.hundredths.Statement.{statement}

@@ -11,7 +11,7 @@ returns : tie.Need-returns
 returns c =
     let s = c .before .before in
     let read = toZ-ofZ (s .fits .numerator) in
-    value-is _ _ _ _ _ read (read-back _ (c .before .hundredths .ok) ∙ (rw read at (c .before .hundredths .ensures))) (rw read at (c .quotient .ensures))
+    value-is _ _ _ _ _ read (read-back _ (c .before .hundredths .ok) ∙ (rw read at (c .before .hundredths .ensures))) (search (rw read at (c .quotient .ensures)))
 
 pub value-from-spec : {M : Type 1} → statement M
 value-from-spec = tie.close (tie.spec (λ c κs. search needs) (λ c κs. search needs) returns)

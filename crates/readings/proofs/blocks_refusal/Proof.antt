@@ -1,7 +1,6 @@
 -- `blocks_refusal`: past the lengths, the tests of the block list come to its bytes. Assumes nothing.
 use borrow.Author.Needs.{needs}
-use mathlib.Core.Path.{_≡_, sym, _∙_}
-use Rattle.meaning.specs.Refusals.{clean}
+use mathlib.Core.Path.{sym, _∙_}
 use Rattle.laws.proofs.Chains.{goes-on}
 use Rattle.readings.proofs.Answers.{design-clean}
 use Rattle.readings.proofs.blocks_refusal.Statement.{statement}

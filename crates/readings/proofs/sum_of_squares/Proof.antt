@@ -8,7 +8,7 @@ use denote.Ref.{now}
 use lib.ListN.{length}
 use lib.Dec.{eqb}
 use Rattle.meaning.specs.Design.{sized, blocks}
-use Rattle.meaning.specs.Refusals.{accepted, refused, inReach}
+use Rattle.meaning.specs.Refusals.{accepted, inReach}
 use Rattle.meaning.specs.Calls.{squaredReadingsVerdict}
 use Rattle.laws.proofs.Chains.{fits, readings-near}
 use Rattle.readings.proofs.Squares.{readings-squares}

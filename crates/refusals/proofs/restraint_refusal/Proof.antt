@@ -4,7 +4,6 @@ use mathlib.Core.Path.{sym}
 use native.Mathlib.Omega.{arith}
 use mir.Facts.{toZ-ofZ}
 use Rattle.algebra.proofs.Signs.{too-low, too-high, between}
-use Rattle.meaning.specs.Refusals.{restraint}
 use Rattle.refusals.proofs.Jobs.{inside, shifted, restrained-yes, restrained-no}
 use Rattle.refusals.proofs.restraint_refusal.Statement.{statement}
 use Rattle.refusals.proofs.restraint_refusal.Tie as tie

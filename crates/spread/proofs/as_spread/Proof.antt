@@ -2,7 +2,7 @@
 use borrow.Author.Needs.{needs}
 use mathlib.Core.Path.{_≡_, ap, _∙_}
 use native.Mathlib.Omega.{arith}
-use lib.IntN.{ℤ, pos}
+use lib.IntN.{ℤ}
 use mir.Syntax.{w64}
 use mir.Facts.{toZ-pos}
 use Rattle.quotient.specs.Quotient.{quotientOf}
@@ -16,8 +16,8 @@ returns c = let none : c .before .args .freedom ≡ 0 = omega arith in rw none (
 returns-2 : tie.Need-returns-2
 returns-2 c =
     let k = c .before .before .args .hundredths in
-    some-spread k (c .before .before .args .freedom) (c .quotient .result) (c .before .before .pre) (omega arith)
-    (c .quotient .ensures ∙ ap (λ (z : ℤ). quotientOf z 100) (toZ-pos w64 {n = k} (omega arith)))
+    search (some-spread k (c .before .before .args .freedom) (c .quotient .result) (c .before .before .pre) (omega arith)
+    (c .quotient .ensures ∙ ap (λ (z : ℤ). quotientOf z 100) (toZ-pos w64 {n = k} (omega arith))))
 
 pub as-spread-spec : {M : Type 1} → statement M
 as-spread-spec = tie.close (tie.spec (λ c. search needs) (λ c κs. search needs) returns returns-2)

@@ -3,7 +3,7 @@ use borrow.Author.Needs.{needs}
 use mathlib.Core.Path.{_≡_, sym, ap, _∙_}
 use Prim.Native.Nat.{_*_, _^_, _<_}
 use native.Mathlib.Omega.{arith}
-use Rattle.spread.specs.Hundredths.{ranged, hundredthsFrom}
+use Rattle.spread.specs.Hundredths.{hundredthsFrom}
 use Rattle.spread.proofs.Range.{Ranged, ranged-is, product-range, largest-is, no-freedom, hundredths-is, hundredths-none}
 use Rattle.spread.proofs.hundredths_from.Statement.{statement}
 use Rattle.spread.proofs.hundredths_from.Tie as tie
@@ -22,7 +22,7 @@ module _ (c : tie.Then2) where
 returns : tie.Need-returns
 returns c =
     let none : 0 ≡ c .before .args .freedom = omega arith in
-    sym (no-freedom (c .before .args .q) (c .before .args .vbeta)) ∙ ap (hundredthsFrom (c .before .args .q) (c .before .args .vbeta)) none
+    search (sym (no-freedom (c .before .args .q) (c .before .args .vbeta)) ∙ ap (hundredthsFrom (c .before .args .q) (c .before .args .vbeta)) none)
 
 returns-2 : tie.Need-returns-2
 returns-2 c =

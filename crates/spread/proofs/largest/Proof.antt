@@ -65,7 +65,7 @@ returns : tie.Need-returns Inv-loop μ-loop
 returns c =
     let r = the-root (c .before .before .before) in
     let e = c .before .before .loop .e in
-    (lower r e (c .before .before .loop .inv .1), upper r e (c .if1 .taken))
+    (search (lower r e (c .before .before .loop .inv .1)), search (upper r e (c .if1 .taken)))
 
 loop-less : tie.Need-loop-less Inv-loop μ-loop
 loop-less c = omega arith

@@ -1,7 +1,5 @@
 -- `spread_from`: its two calls give the two parts. Assumes nothing.
 use borrow.Author.Needs.{needs}
-use mathlib.Core.Path.{sym, subst}
-use Prim.Native.Nat.{ℕ, _^_, _<_}
 use native.Mathlib.Omega.{arith}
 use Rattle.spread.proofs.Range.{hundredths-small, spreading-is}
 use Rattle.spread.proofs.spread_from.Statement.{statement}

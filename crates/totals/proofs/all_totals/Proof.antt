@@ -4,7 +4,6 @@ use mathlib.Core.Path.{_≡_, sym, ap, _∙_}
 use mathlib.Core.List.{List}
 use Prim.Native.Nat.{ℕ, _*_, _≤_}
 use native.Mathlib.Omega.{arith}
-use borrow.Author.Tests.{le-leb, lt-leb}
 use denote.Ref.{now}
 use lib.IntN.{ℤ, natAbs}
 use lib.ListN.{length}
@@ -18,6 +17,7 @@ use Rattle.meaning.specs.declared.SquareSum.{SquareSum}
 use Rattle.meaning.specs.Refusals.{accepted, refused}
 use Rattle.meaning.specs.Calls.{wordAt, wordsUnder, written, squareSum, squaredTotalsVerdict}
 use Rattle.laws.proofs.Chains.{Sound, Readings, given-yes, given-no}
+use Rattle.readings.proofs.Squares.{squares}
 use Rattle.readings.proofs.Answers.{square-refused, square-accepted}
 use Rattle.totals.specs.Verdicts.{totalsVerdict}
 use Rattle.totals.proofs.Developing.{Laid, laid, laid-totals, laid-most, laid-squares, develop-accepts}
@@ -113,10 +113,11 @@ returns-4 c =
     let d = develops f in
     let s = start d in
     let e = totals-roomy _ _ _ _ _ (passed (d .before .before .before .before)) (roomy d) (totals-roomy-here f) in
+    let summed : c .squared-totals .result ≡ squares (f .fill .last .1 .1 .1 .1 .0) (objects (head d)) = search (c .squared-totals .ensures) in
     let squares-are = laid-squares (head d) (bytes d) (ys d) (now (s .args .totals)) (f .fill .last .1 .1 .1 .1 .0) (totals-roomy-here f) (totalled f) in
     let words = wrote d ∙ sym (given-yes (verdict s) _ _ e) in
     let totals = totalled f ∙ sym (given-yes (verdict s) _ _ e) in
-    (square-accepted (verdict s) (squared s) _ e (search (c .squared-totals .ensures ∙ squares-are)), (words, totals))
+    (square-accepted (verdict s) (squared s) _ e (summed ∙ squares-are), (words, totals))
 
 pub all-totals-spec : {M : Type 1} → statement M
 all-totals-spec =

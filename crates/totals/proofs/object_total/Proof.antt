@@ -1,10 +1,10 @@
 -- `object_total`: `total`, read as an i64, is the total of the first k blocks; `total-small` bounds it, so no range stands in the invariant. Assumes nothing.
-use mathlib.Core.Path.{_≡_, refl, sym, _∙_}
+use mathlib.Core.Path.{_≡_, sym, _∙_}
 use Prim.Native.Nat.{ℕ, _+_, _-_, _*_, _≤_, _<_}
 use native.Mathlib.Omega.{arith}
 use denote.Ref.{now}
 use lib.Dec.{lit<}
-use lib.IntN.{ℤ, pos, natAbs}
+use lib.IntN.{ℤ, pos}
 use lib.ListN.{getD}
 use mir.Syntax.{w32, w64}
 use mir.Val.{SFits, toZ}
@@ -56,7 +56,9 @@ module _ (c : tie.After-y Inv-loop μ-loop) where
       (total-small _ _ k (start .args .b) (start .args .i) (start .pre .0) (omega arith))
 
 loop-again : tie.Need-loop-again Inv-loop μ-loop
-loop-again c = (omega arith, search (plus (sum c) (term c) (omega (arith, start c .pre .0 .blocks-most)) .reads ∙ sym (total-more (now (start c .args .words)) (now (start c .args .readings)) (k c) (start c .args .i))))
+loop-again c =
+    let next = plus (sum c) (term c) (omega (arith, start c .pre .0 .blocks-most)) .reads ∙ sym (total-more (now (start c .args .words)) (now (start c .args .readings)) (k c) (start c .args .i)) in
+    (omega arith, cc)
 
 returns : tie.Need-returns Inv-loop μ-loop
 returns c = let e : c .before .loop .k ≡ c .before .before .args .b = omega arith in cc

@@ -6,12 +6,11 @@ use Prim.Native.Nat.{ℕ, _*_, _≤_}
 use native.Mathlib.Omega.{arith}
 use denote.Ref.{now}
 use lib.IntN.{ℤ}
-use Rattle.algebra.specs.Buffers.{over}
 use Rattle.algebra.proofs.Signs.{read-back}
 use Rattle.meaning.specs.declared.Head.{Head}
 use Rattle.meaning.specs.Design.{blocks}
 use Rattle.meaning.specs.Refusals.{_⨾_, accepted, clean, inReach}
-use Rattle.meaning.specs.Calls.{slices, wordAt}
+use Rattle.meaning.specs.Calls.{slices}
 use Rattle.laws.proofs.Chains.{Sound, Readings, given-yes, sliced, opened}
 use Rattle.totals.proofs.Developing.{Laid, laid, develop-accepts}
 use Rattle.totals.proofs.Refusing.{totalled, total-refused, total-no-object, total-reach, no-total-is, total-is-given}

@@ -1,6 +1,6 @@
 -- `totals_refusal`: the tests of the blocks, then of the readings. Assumes nothing.
 use borrow.Author.Needs.{needs}
-use mathlib.Core.Path.{_≡_, sym, _∙_}
+use mathlib.Core.Path.{sym, _∙_}
 use Rattle.meaning.specs.Calls.{squaredTotalsVerdict}
 use Rattle.laws.proofs.Chains.{goes-on}
 use Rattle.totals.proofs.totals_refusal.Statement.{statement}

@@ -2,11 +2,13 @@
 use borrow.Author.Needs.{needs}
 use mathlib.Core.Path.{_≡_, sym, ap, ap₂, _∙_}
 use mathlib.Core.List.{List}
-use Prim.Native.Nat.{ℕ, _≤_, _<_}
+use Prim.Native.Nat.{ℕ, _<_}
 use native.Mathlib.Omega.{arith}
 use denote.Ref.{now}
 use lib.IntN.{ℤ, pos}
 use lib.ListN.{getD}
+use mir.Syntax.{w64}
+use mir.Val.{toZ, ofZ}
 use mir.Facts.{toZ-ofZ}
 use Rattle.algebra.proofs.Filling.{getD-over}
 use Rattle.algebra.proofs.Signs.{read-back}
@@ -17,7 +19,7 @@ use Rattle.meaning.specs.Design.{objects}
 use Rattle.meaning.specs.Analysis.{numeratorOf, denominatorOf}
 use Rattle.meaning.specs.Refusals.{_⨾_, accepted, clean}
 use Rattle.meaning.specs.Calls.{slices, jobVerdict, analyseVerdict}
-use Rattle.laws.proofs.Chains.{Job, job, opened, sliced, given-yes}
+use Rattle.laws.proofs.Chains.{job, opened, sliced, given-yes}
 use Rattle.quotient.specs.Quotient.{valueFrom}
 use Rattle.values.proofs.Refusing.{job-verdict, value-refused, value-no-object, value-job, no-value-is, value-is-given, value-from-is}
 use Rattle.values.proofs.value_of.Statement.{statement}
@@ -84,9 +86,10 @@ returns-4 : tie.Need-returns-4
 returns-4 c =
     let a = c .before .before .before .before .before .before .before in
     let e = sym (solved-verdict a) ∙ c .before .before .enum-told2 .given .1 in
+    let made : c .value-from .result ≡ valueFrom (toZ w64 (ofZ w64 (getD (a .analyse .last .1 .1 .1 .1 .1 .1 .0) (start a .args .object) (pos 0)))) (a .analyse .result .denominator) = search (c .value-from .ensures) in
     value-is-given _ _ _ _ _ _ _ (value-job _ _ _ _ _ _ (passed (c .before .before .before .before .before .before .before .before .before .before .before .before .before)) (there a) ∙ e)
-    (search (c .value-from .ensures ∙ ap₂ valueFrom (read-back _ (c .before .value-from-arg .given) ∙ numerator-is a e) (denominator-is a e)
-    ∙ value-from-is _ _ _ _ _ _ (job (head a) (bytes a) (ys a) (start a .args .set) (start a .args .sum) e)))
+    (made ∙ ap₂ valueFrom (read-back _ (c .before .value-from-arg .given) ∙ numerator-is a e) (denominator-is a e)
+    ∙ value-from-is _ _ _ _ _ _ (job (head a) (bytes a) (ys a) (start a .args .set) (start a .args .sum) e))
 
 pub value-of-spec : {M : Type 1} → statement M
 value-of-spec =

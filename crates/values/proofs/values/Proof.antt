@@ -1,9 +1,7 @@
 -- `values`: the job worked out in two local rooms and the lent one. Assumes nothing.
 use borrow.Author.Needs.{needs}
-use mathlib.Core.Path.{_≡_, ap, _∙_}
-use mathlib.Core.List.{List}
+use mathlib.Core.Path.{ap, _∙_}
 use denote.Ref.{now}
-use lib.IntN.{ℤ}
 use lib.ListN.{length}
 use mir.Facts.{toZ-ofZ}
 use Rattle.meaning.specs.declared.Verdict.{Verdict}
@@ -18,7 +16,7 @@ returns c =
     let s = c .before .before .before .before .before .before .before .before in
     let read = toZ-ofZ (s .fits .sum) in
     let e = values-verdict (s .args .head) (now (s .args .blocks)) (now (s .args .readings)) (s .args .set) (s .args .sum) (length (now (s .args .values))) in (
-      search (ap (λ (r : Solved). r .verdict) (rw read at (c .before .before .before .analyse .ensures .0)) ∙ e),
+      rw (← e) (search (ap (λ (r : Solved). r .verdict) (rw read at (c .before .before .before .analyse .ensures .0)))),
       (rw read at (c .before .before .before .analyse .ensures .1 .1 .0))
           ∙ ap (λ (v : Verdict). valuesUnder v (s .args .head) (now (s .args .blocks)) (now (s .args .readings)) (s .args .set) (s .args .sum) (now (s .args .values))) e,
     )

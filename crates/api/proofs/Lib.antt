@@ -1,0 +1,3 @@
+-- What the exported calls rest on, and what their promises rule out.
+pub mod Laying
+pub mod Determined

@@ -12,12 +12,12 @@ use Rattle.algebra.specs.Buffers.{over}
 use Rattle.algebra.proofs.Filling.{over-step, length-over}
 
 -- past the end nothing more is written
-over-full : (i : ℕ) (f : ℕ → ℕ) (l : List ℕ) → length l ≤ i → over i f l ≡ over (suc i) f l
+pub over-full : {A : Type 0} (i : ℕ) (f : ℕ → A) (l : List A) → length l ≤ i → over i f l ≡ over (suc i) f l
 unfolding over
 over-full zero f [] h = refl
 over-full zero f (x ∷ l) h = absurd (not-suc-le-zero h)
 over-full (suc i) f [] h = refl
-over-full (suc i) f (x ∷ l) h = ap (λ (t : List ℕ). f 0 ∷ t) (over-full i (λ (k : ℕ). f (suc k)) l (le-of-suc-le-suc h))
+over-full {A} (suc i) f (x ∷ l) h = ap (λ (t : List A). f 0 ∷ t) (over-full i (λ (k : ℕ). f (suc k)) l (le-of-suc-le-suc h))
 
 -- a turn of the loop, whether or not there is room: m is what the list is now, and x what is stored
 pub over-next : (i : ℕ) (f : ℕ → ℕ) (l : List ℕ) {x : ℕ} {m : List ℕ} → m ≡ over i f l → x ≡ f i → set m i x ≡ over (i + 1) f l

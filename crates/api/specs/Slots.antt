@@ -5,7 +5,14 @@ use lib.ListN.{getD, length}
 use Rattle.algebra.specs.Buffers.{over}
 use Rattle.meaning.specs.declared.Parameters.{Parameters}
 use Rattle.meaning.specs.declared.Judged.{Judged}
+use Rattle.meaning.specs.declared.Listed.{Listed}
+use Rattle.meaning.specs.declared.Solved.{Solved}
+use Rattle.meaning.specs.declared.Spread.{Spread}
+use Rattle.meaning.specs.declared.Spread.the-variants.{Of, None}
+use Rattle.meaning.specs.declared.Spreading.{Spreading}
 use Rattle.meaning.specs.Refusals.{place}
+use Rattle.meaning.specs.Calls.{solvedUnder}
+use Rattle.meaning.specs.File.{headOf, blocksOf, readingsOf, setOf, solveVerdict}
 
 -- a lent answer with the slots at its front; where it is shorter it takes the first ones, where it is longer the rest stays
 abbrev pub laid : List ℕ → List ℕ → List ℕ
@@ -14,3 +21,21 @@ laid slots answer = over (length slots) (λ i. getD slots i 0) answer
 -- a judgement: place, v, b, r, p, L1, L2
 abbrev pub judgedSlots : Judged → List ℕ
 judgedSlots j = let p = j .parameters in place (j .verdict) ∷ p .v ∷ p .b ∷ p .r ∷ p .p ∷ p .l1 ∷ p .l2 ∷ []
+
+-- 1 where there is a spread, and 0 where there is none
+abbrev pub hasSpread : Spread → ℕ
+hasSpread (Of x f) = 1
+hasSpread None = 0
+
+-- a job worked out: the seven of a judgement, then denominator, Q, v·beta, f, hundredths, whether there is a spread
+abbrev pub solvedSlots : Solved → List ℕ
+solvedSlots s = let p = s .parameters in let t = s .spreading in
+    place (s .verdict) ∷ p .v ∷ p .b ∷ p .r ∷ p .p ∷ p .l1 ∷ p .l2 ∷ s .denominator ∷ t .q ∷ t .vbeta ∷ t .freedom ∷ t .hundredths ∷ hasSpread (t .spread) ∷ []
+
+-- what solving a file into rooms of these lengths answers
+abbrev pub solvedOf : List ℕ → ℕ → ℕ → ℕ → Solved
+solvedOf s words values deviations = solvedUnder (solveVerdict s words values deviations) (headOf s) (blocksOf s) (readingsOf s) (setOf s)
+
+-- a listing: the bytes written
+abbrev pub listedSlots : Listed → List ℕ
+listedSlots l = l .length ∷ []

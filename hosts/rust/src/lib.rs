@@ -1,0 +1,184 @@
+//! The mass bench for Rust: safe calls of the proved static library. The proved functions take every input, so no call here can fail but by a [`Refusal`].
+//! What each answers is proved for the archive that `rt staticlib api` writes, for x86-64.
+
+use std::fmt;
+
+mod ffi {
+    extern "C" {
+        pub fn bench_judge(n: usize, flag: usize, p: usize, m: usize, blocks: *const u8, blocks_length: usize, answer: *mut u64, answer_length: usize) -> u8;
+        pub fn bench_solve(
+            bytes: *const u8,
+            bytes_length: usize,
+            words: *mut u64,
+            words_length: usize,
+            values: *mut i64,
+            values_length: usize,
+            deviations: *mut i64,
+            deviations_length: usize,
+            answer: *mut u64,
+            answer_length: usize,
+            spread: *mut f64,
+            spread_length: usize,
+        ) -> u8;
+        pub fn bench_listing(bytes: *const u8, bytes_length: usize, out: *mut u8, out_length: usize, answer: *mut u64, answer_length: usize) -> u8;
+    }
+}
+
+/// Room that is enough for every job: words, values, deviations, bytes of text.
+const ROOM: (usize, usize, usize, usize) = (2600, 50, 1300, 65536);
+
+/// Why a call refuses, by the number of the request's table.
+#[derive(Debug, Clone, Copy, PartialEq, Eq)]
+pub enum Reason {
+    PastTheEnd = 1,
+    WrongTag = 2,
+    WrongLength = 3,
+    BrokenSize = 4,
+    BadObject = 5,
+    Unbalanced = 6,
+    BadRestraint = 7,
+    BadReading = 8,
+    BytesFollow = 9,
+    NoRoom = 10,
+}
+
+/// A refusal: its reason, and its place in the file, or the index in the slice of a direct call.
+#[derive(Debug, Clone, Copy, PartialEq, Eq)]
+pub struct Refusal {
+    pub reason: Reason,
+    pub place: u64,
+}
+
+impl fmt::Display for Refusal {
+    fn fmt(&self, f: &mut fmt::Formatter) -> fmt::Result {
+        write!(f, "refused {} {}", self.reason as u8, self.place)
+    }
+}
+
+impl std::error::Error for Refusal {}
+
+/// The sizes of a design: residues, whether the fixed object takes part, objects a side, initial blocks.
+#[derive(Debug, Clone, Copy, PartialEq, Eq)]
+pub struct Head {
+    pub n: usize,
+    pub fixed: bool,
+    pub p: usize,
+    pub m: usize,
+}
+
+/// The parameters of a balanced design; `l1` and `l2` are the paper's two lambdas.
+#[derive(Debug, Clone, Copy, PartialEq, Eq)]
+pub struct Parameters {
+    pub v: u64,
+    pub b: u64,
+    pub r: u64,
+    pub p: u64,
+    pub l1: u64,
+    pub l2: u64,
+}
+
+/// The spread, in whole hundredths of a count and as an f64.
+#[derive(Debug, Clone, Copy, PartialEq)]
+pub struct Spread {
+    pub hundredths: u64,
+    pub value: f64,
+}
+
+/// What a job comes to, beside its values and deviations.
+#[derive(Debug, Clone, Copy, PartialEq)]
+pub struct Solved {
+    pub parameters: Parameters,
+    /// The denominator of every value.
+    pub denominator: u64,
+    pub q: u64,
+    /// The denominator of every deviation.
+    pub vbeta: u64,
+    pub freedom: u64,
+    /// None where there is no degree of freedom.
+    pub spread: Option<Spread>,
+}
+
+/// A job worked out.
+#[derive(Debug, Clone, PartialEq)]
+pub struct Job {
+    pub solved: Solved,
+    /// Left word, right word, block after block: one bit an object.
+    pub words: Vec<u64>,
+    /// The numerator of each object's value.
+    pub values: Vec<i64>,
+    /// The numerator of each block's deviation.
+    pub deviations: Vec<i64>,
+}
+
+/// Judges a design. `blocks` has the initial blocks, each `p` left objects, then `p` right ones; 255 is the fixed object.
+pub fn judge(head: Head, blocks: &[u8]) -> Result<Parameters, Refusal> {
+    let mut answer = [0; 7];
+    // Sound: each slice is lent as its pointer and length, and the only one that is written is ours alone.
+    let number = unsafe { ffi::bench_judge(head.n, head.fixed as usize, head.p, head.m, blocks.as_ptr(), blocks.len(), answer.as_mut_ptr(), answer.len()) };
+    accepted(number, &answer)?;
+    Ok(parameters(&answer))
+}
+
+/// Works a job file out.
+pub fn solve(bytes: &[u8]) -> Result<Job, Refusal> {
+    let (mut words, mut values, mut deviations) = (vec![0; ROOM.0], vec![0; ROOM.1], vec![0; ROOM.2]);
+    let solved = solve_into(bytes, &mut words, &mut values, &mut deviations)?;
+    words.truncate(2 * solved.parameters.b as usize);
+    values.truncate(solved.parameters.v as usize);
+    deviations.truncate(solved.parameters.b as usize);
+    Ok(Job { solved, words, values, deviations })
+}
+
+/// Works a job file out into lent rooms, of at least 2b, v and b entries. A refusal leaves them as they were; later entries stay.
+pub fn solve_into(bytes: &[u8], words: &mut [u64], values: &mut [i64], deviations: &mut [i64]) -> Result<Solved, Refusal> {
+    let (mut answer, mut spread) = ([0; 13], [0.0]);
+    // Sound: as in `judge`; no two of the slices that are written overlap.
+    let number = unsafe {
+        ffi::bench_solve(
+            bytes.as_ptr(),
+            bytes.len(),
+            words.as_mut_ptr(),
+            words.len(),
+            values.as_mut_ptr(),
+            values.len(),
+            deviations.as_mut_ptr(),
+            deviations.len(),
+            answer.as_mut_ptr(),
+            answer.len(),
+            spread.as_mut_ptr(),
+            spread.len(),
+        )
+    };
+    accepted(number, &answer)?;
+    Ok(Solved {
+        parameters: parameters(&answer),
+        denominator: answer[7],
+        q: answer[8],
+        vbeta: answer[9],
+        freedom: answer[10],
+        spread: (answer[12] == 1).then_some(Spread { hundredths: answer[11], value: spread[0] }),
+    })
+}
+
+/// The text that the bench prints for a job file: its listing, or the line of its refusal.
+pub fn listing(bytes: &[u8]) -> String {
+    let (mut out, mut answer) = (vec![0; ROOM.3], [0]);
+    // Sound: as in `judge`.
+    let number = unsafe { ffi::bench_listing(bytes.as_ptr(), bytes.len(), out.as_mut_ptr(), out.len(), answer.as_mut_ptr(), answer.len()) };
+    assert_eq!(number, 0, "it is proved that the room suffices");
+    out.truncate(answer[0] as usize);
+    String::from_utf8(out).expect("a listing is ASCII")
+}
+
+fn accepted(number: u8, answer: &[u64]) -> Result<(), Refusal> {
+    use Reason::*;
+    let reasons = [PastTheEnd, WrongTag, WrongLength, BrokenSize, BadObject, Unbalanced, BadRestraint, BadReading, BytesFollow, NoRoom];
+    match number {
+        0 => Ok(()),
+        k => Err(Refusal { reason: reasons[k as usize - 1], place: answer[0] }),
+    }
+}
+
+fn parameters(answer: &[u64]) -> Parameters {
+    Parameters { v: answer[1], b: answer[2], r: answer[3], p: answer[4], l1: answer[5], l2: answer[6] }
+}

@@ -1,0 +1,79 @@
+//! The calls on the examples of the repository.
+use mass_bench::{judge, listing, solve, solve_into, Head, Parameters, Reason, Refusal, Spread};
+
+const HERE: &str = match option_env!("CARGO_MANIFEST_DIR") {
+    Some(folder) => folder,
+    None => "hosts/rust",
+};
+
+fn example(name: &str) -> Vec<u8> {
+    std::fs::read(format!("{}/../../examples/{name}", HERE)).unwrap()
+}
+
+#[test]
+fn example_a_is_judged() {
+    let a = judge(Head { n: 5, fixed: false, p: 2, m: 1 }, &[1, 4, 2, 3]);
+    assert_eq!(a, Ok(Parameters { v: 5, b: 5, r: 4, p: 2, l1: 1, l2: 2 }));
+}
+
+#[test]
+fn the_fixed_object_is_judged() {
+    let e = judge(Head { n: 7, fixed: true, p: 4, m: 1 }, &[255, 1, 2, 4, 0, 3, 5, 6]);
+    assert_eq!(e, Ok(Parameters { v: 8, b: 7, r: 7, p: 4, l1: 3, l2: 4 }));
+}
+
+#[test]
+fn designs_are_refused() {
+    let four = Head { n: 4, fixed: false, p: 1, m: 1 };
+    assert_eq!(judge(four, &[0, 1]), Err(Refusal { reason: Reason::Unbalanced, place: 0 }));
+    assert_eq!(judge(four, &[0, 4]), Err(Refusal { reason: Reason::BadObject, place: 1 }));
+    assert_eq!(judge(four, &[0]), Err(Refusal { reason: Reason::WrongLength, place: 0 }));
+    assert_eq!(judge(Head { n: 51, ..four }, &[]), Err(Refusal { reason: Reason::BrokenSize, place: 0 }));
+}
+
+#[test]
+fn example_a_is_solved() {
+    let a = solve(&example("A.job")).unwrap();
+    assert_eq!((a.values, a.solved.denominator), (vec![-3, 73, 19, 5, 51], 10));
+    assert_eq!((a.deviations, a.solved.vbeta), (vec![5; 5], 5));
+    assert_eq!((a.words.len(), a.words[0], a.words[1]), (10, 0b10010, 0b01100));
+    assert_eq!((a.solved.q, a.solved.freedom), (25, 1));
+    assert_eq!(a.solved.spread, Some(Spread { hundredths: 223, value: 2.23 }));
+}
+
+#[test]
+fn no_freedom_gives_no_spread() {
+    let e = solve(&example("E.job")).unwrap().solved;
+    assert_eq!((e.freedom, e.spread), (0, None));
+}
+
+#[test]
+fn lent_rooms_are_written_as_far_as_is_said() {
+    let a = example("A.job");
+    let (mut words, mut values, mut deviations) = ([9; 11], [9; 6], [9; 6]);
+    assert_eq!(solve_into(&a, &mut words[..9], &mut values, &mut deviations), Err(Refusal { reason: Reason::NoRoom, place: 0 }));
+    assert_eq!((words, values, deviations), ([9; 11], [9; 6], [9; 6]));
+    assert!(solve_into(&a, &mut words, &mut values, &mut deviations).is_ok());
+    assert_eq!((words[10], values, deviations), (9, [-3, 73, 19, 5, 51, 9], [5, 5, 5, 5, 5, 9]));
+}
+
+#[test]
+fn a_job_is_refused_at_its_place() {
+    let refusal = solve(&example("K-byte-added.job")).unwrap_err();
+    assert_eq!(refusal, Refusal { reason: Reason::BytesFollow, place: 56 });
+    assert_eq!(refusal.to_string(), "refused 9 56");
+}
+
+#[test]
+fn every_example_is_listed() {
+    let folder = format!("{}/../../examples", HERE);
+    let mut jobs = 0;
+    for entry in std::fs::read_dir(folder).unwrap() {
+        let name = entry.unwrap().file_name().into_string().unwrap();
+        if let Some(stem) = name.strip_suffix(".job") {
+            assert_eq!(listing(&example(&name)), String::from_utf8(example(&format!("{stem}.listing"))).unwrap(), "{name}");
+            jobs += 1;
+        }
+    }
+    assert!(jobs >= 16);
+}

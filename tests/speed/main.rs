@@ -1,0 +1,161 @@
+//! Proved code against plain Rust of the same method, in one run on one machine: `tests/speed/run`. The table goes to standard output.
+#[path = "../../hosts/rust/src/lib.rs"]
+#[allow(dead_code)]
+mod mass_bench;
+mod plain;
+
+use plain::Head;
+use std::hint::black_box;
+
+/// A job: its head, its initial blocks, and the file that holds them with seeded readings.
+struct Job {
+    head: Head,
+    blocks: Vec<u8>,
+    file: Vec<u8>,
+}
+
+impl Job {
+    fn new(n: usize, flag: usize, p: usize, blocks: Vec<u8>) -> Job {
+        let head = Head { n, flag, p, m: blocks.len() / (2 * p) };
+        let mut file = vec![1, 0, 4, n as u8, flag as u8, p as u8, head.m as u8, 2];
+        file.extend((blocks.len() as u16).to_be_bytes());
+        file.extend(&blocks);
+        file.extend([3, 0, 16]);
+        file.extend(3u64.to_be_bytes());
+        file.extend(7i64.to_be_bytes());
+        file.push(4);
+        file.extend((4 * head.m as u16 * n as u16).to_be_bytes());
+        let mut seed = 1u32;
+        for _ in 0..head.m * n {
+            seed = seed.wrapping_mul(1664525).wrapping_add(1013904223);
+            file.extend(((seed >> 8) as i32 % 200_001).to_be_bytes());
+        }
+        Job { head, blocks, file }
+    }
+
+    fn objects(&self) -> usize {
+        self.head.n + self.head.flag
+    }
+}
+
+/// One object a side: every difference of an odd n, `times` over; with the fixed object too.
+fn pairs(n: usize, flag: usize, times: usize) -> Job {
+    let mut blocks = vec![];
+    for _ in 0..times {
+        (1..=n as u8 / 2).for_each(|d| blocks.extend([0, d]));
+        if flag == 1 {
+            blocks.extend([255, 0]);
+        }
+    }
+    Job::new(n, flag, 1, blocks)
+}
+
+/// Squares against the other residues of a prime n = 3 modulo 4; with the fixed object and 0 too.
+fn squares(n: usize, flag: usize) -> Job {
+    let is_square = |x: &u8| (1..n).any(|y| y * y % n == *x as usize);
+    let (mut left, mut right): (Vec<u8>, Vec<u8>) = (1..n as u8).partition(is_square);
+    if flag == 1 {
+        left.push(255);
+        right.push(0);
+    }
+    let p = left.len();
+    left.extend(right);
+    Job::new(n, flag, p, left)
+}
+
+/// The processor time of this thread in seconds: what other programs take is not in it.
+fn clock() -> f64 {
+    extern "C" {
+        fn clock_gettime(clock: i32, time: *mut [i64; 2]) -> i32;
+    }
+    const THREAD: i32 = 3;
+    let mut time = [0; 2];
+    assert_eq!(unsafe { clock_gettime(THREAD, &mut time) }, 0);
+    time[0] as f64 + time[1] as f64 * 1e-9
+}
+
+/// The least time of one call of each in microseconds, over many samples in turn, so that a busy machine harms neither.
+fn times<T, const K: usize>(calls: [&dyn Fn() -> T; K]) -> [f64; K] {
+    let mut least = [f64::MAX; K];
+    let rounds = calls.map(|call| {
+        let start = clock();
+        black_box(call());
+        (0.002 / (clock() - start)).ceil() as usize
+    });
+    let begin = clock();
+    let mut samples = 0;
+    while samples < 20 || clock() - begin < 1.0 {
+        for k in 0..K {
+            let start = clock();
+            (0..rounds[k]).for_each(|_| drop(black_box(calls[k]())));
+            least[k] = least[k].min((clock() - start) * 1e6 / rounds[k] as f64);
+        }
+        samples += 1;
+    }
+    least
+}
+
+fn judge_proved(job: &Job) -> Option<u64> {
+    let Head { n, flag, p, m } = job.head;
+    mass_bench::judge(mass_bench::Head { n, fixed: flag == 1, p, m }, black_box(&job.blocks)).ok().map(|a| a.l2)
+}
+
+fn judge_plain(job: &Job) -> Option<u64> {
+    plain::judge(job.head, black_box(&job.blocks)).ok().map(|a| a.l2)
+}
+
+fn judge_in_one_walk(job: &Job) -> Option<u64> {
+    plain::judge_in_one_walk(job.head, black_box(&job.blocks)).ok().map(|a| a.l2)
+}
+
+/// Both take rooms that are lent once, so that no allocation is measured.
+struct Rooms {
+    words: Vec<u64>,
+    values: Vec<i64>,
+    deviations: Vec<i64>,
+}
+
+fn rooms() -> Rooms {
+    Rooms { words: vec![0; 2600], values: vec![0; 50], deviations: vec![0; 1300] }
+}
+
+fn solve_proved(job: &Job, rooms: &mut Rooms) -> Option<(u64, u64)> {
+    let Rooms { words, values, deviations } = rooms;
+    let solved = mass_bench::solve_into(black_box(&job.file), words, values, deviations).ok()?;
+    Some((solved.q, solved.spread.map_or(0, |s| s.hundredths)))
+}
+
+fn solve_plain(job: &Job, rooms: &mut Rooms) -> Option<(u64, u64)> {
+    let Rooms { words, values, deviations } = rooms;
+    plain::solve(black_box(&job.file), words, values, deviations).ok().map(|s| (s.q, s.hundredths))
+}
+
+fn row(job: &Job) {
+    let (proved_rooms, plain_rooms) = (std::cell::RefCell::new(rooms()), std::cell::RefCell::new(rooms()));
+    let proved = || solve_proved(job, &mut proved_rooms.borrow_mut());
+    let plain = || solve_plain(job, &mut plain_rooms.borrow_mut());
+    assert!(judge_proved(job).is_some() && judge_proved(job) == judge_plain(job) && judge_plain(job) == judge_in_one_walk(job));
+    assert!(proved().is_some() && proved() == plain());
+    let (a, b) = (proved_rooms.borrow(), plain_rooms.borrow());
+    assert!(a.words == b.words && a.values == b.values && a.deviations == b.deviations);
+    drop((a, b));
+    let [jp, jr, jw] = times([&|| judge_proved(job), &|| judge_plain(job), &|| judge_in_one_walk(job)]);
+    let [sp, sr] = times([&proved, &plain]);
+    let (v, b, p) = (job.objects(), job.head.m * job.head.n, job.head.p);
+    println!("| {v} | {b} | {p} | {jp:.1} | {jr:.1} | {:.2} | {jw:.1} | {sp:.1} | {sr:.1} | {:.2} |", jp / jr, sp / sr);
+}
+
+fn table(title: &str, jobs: Vec<Job>) {
+    println!("\n{title}\n\n| v | b | p | judge: proved | plain | ratio | in one walk | solve: proved | plain | ratio |\n|---|---|---|---|---|---|---|---|---|---|");
+    jobs.iter().for_each(row);
+}
+
+fn main() {
+    println!("Microseconds a call, the least of many. Plain: the same method by hand in Rust. In one walk: another method, in plain Rust.");
+    let a = Job::new(5, 0, 2, vec![1, 4, 2, 3]);
+    let f = Job::new(13, 0, 2, vec![1, 12, 8, 5, 4, 9, 6, 7, 3, 10, 11, 2]);
+    table("Proved against plain", vec![a, f, squares(47, 0), squares(47, 1), pairs(49, 0, 1), pairs(49, 1, 1)]);
+    table("More blocks of 13 objects", [1, 2, 4, 8, 10].map(|times| pairs(13, 0, times)).into());
+    table("More objects, one a side, each pair once", [5, 9, 17, 25, 33, 41, 49].map(|n| pairs(n, 0, 1)).into());
+    table("More objects, about half of them a side, one initial block", [3, 7, 11, 19, 23, 31, 43, 47].map(|n| squares(n, 0)).into());
+}

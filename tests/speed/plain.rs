@@ -1,0 +1,309 @@
+//! The bench's own method, written by hand in plain Rust: what the proved code is measured against. Same words, same tables by value, same order of tests.
+
+#[derive(Clone, Copy)]
+pub struct Head {
+    pub n: usize,
+    pub flag: usize,
+    pub p: usize,
+    pub m: usize,
+}
+
+#[derive(Clone, Copy, PartialEq, Debug)]
+pub struct Parameters {
+    pub v: u64,
+    pub b: u64,
+    pub r: u64,
+    pub p: u64,
+    pub l1: u64,
+    pub l2: u64,
+}
+
+pub type Refusal = (u8, usize);
+type Table = [[u64; 50]; 50];
+
+fn sized(h: Head) -> bool {
+    3 <= h.n && h.n <= 50 && h.flag <= 1 && h.n + h.flag <= 50 && 1 <= h.p && 2 * h.p <= h.n + h.flag && 1 <= h.m && h.m <= 64 && h.m * h.n <= 1300
+}
+
+/// The first byte of a block list that is out of range or was already in its block.
+fn offender(h: Head, blocks: &[u8]) -> usize {
+    for i in 0..blocks.len() {
+        let x = blocks[i];
+        let fits = if x == 255 { h.flag == 1 } else { (x as usize) < h.n };
+        let start = i - i % (2 * h.p);
+        if !fits || blocks[start..i].contains(&x) {
+            return i;
+        }
+    }
+    blocks.len()
+}
+
+fn side_word(h: Head, shift: usize, side: &[u8]) -> u64 {
+    let mut word = 0;
+    for &byte in side {
+        let object = if byte == 255 { h.n } else { (byte as usize + shift) % h.n };
+        word += 1 << object;
+    }
+    word
+}
+
+/// Develops the initial blocks: left word, right word, next shift.
+pub fn develop(h: Head, blocks: &[u8], words: &mut [u64]) -> Result<(), Refusal> {
+    if !sized(h) {
+        return Err((4, 0));
+    }
+    if blocks.len() != 2 * h.p * h.m {
+        return Err((3, 0));
+    }
+    let at = offender(h, blocks);
+    if at < blocks.len() {
+        return Err((5, at));
+    }
+    if words.len() < 2 * h.m * h.n {
+        return Err((10, 0));
+    }
+    for j in 0..h.m {
+        let block = &blocks[2 * h.p * j..2 * h.p * (j + 1)];
+        for s in 0..h.n {
+            words[2 * (j * h.n + s)] = side_word(h, s, &block[..h.p]);
+            words[2 * (j * h.n + s) + 1] = side_word(h, s, &block[h.p..]);
+        }
+    }
+    Ok(())
+}
+
+fn together(word: u64, i: usize, j: usize) -> u64 {
+    let pair = 1u64 << i | 1u64 << j;
+    ((word & pair).count_ones() == pair.count_ones()) as u64
+}
+
+fn holds(word: u64, i: usize) -> u64 {
+    (word & 1 << i).count_ones() as u64
+}
+
+/// In how many blocks two objects share a side.
+fn company(words: &[u64], b: usize, v: usize) -> Table {
+    let mut table = [[0; 50]; 50];
+    for i in 0..v {
+        for j in 0..v {
+            let mut sum = 0;
+            for k in 0..b {
+                sum += together(words[2 * k], i, j) + together(words[2 * k + 1], i, j);
+            }
+            table[i][j] = sum;
+        }
+    }
+    table
+}
+
+/// In how many blocks two objects stand on opposite sides.
+fn opposition(words: &[u64], b: usize, v: usize) -> Table {
+    let mut table = [[0; 50]; 50];
+    for i in 0..v {
+        for j in 0..v {
+            let mut sum = 0;
+            for k in 0..b {
+                let (left, right) = (words[2 * k], words[2 * k + 1]);
+                sum += holds(left, i) * holds(right, j) + holds(right, i) * holds(left, j);
+            }
+            table[i][j] = sum;
+        }
+    }
+    table
+}
+
+fn even(company: &Table, opposition: &Table, v: usize) -> bool {
+    for i in 0..v {
+        for j in 0..i {
+            if company[i][j] != company[1][0] || opposition[i][j] != opposition[1][0] {
+                return false;
+            }
+        }
+    }
+    true
+}
+
+/// The parameters of developed words that are balanced.
+fn judge_words(h: Head, words: &[u64]) -> Result<Parameters, Refusal> {
+    let (v, b) = (h.n + h.flag, h.m * h.n);
+    let company = company(words, b, v);
+    let opposition = opposition(words, b, v);
+    if !even(&company, &opposition, v) {
+        return Err((6, 0));
+    }
+    let (l1, l2) = (company[1][0], opposition[1][0]);
+    let r = (l2 - l1) * (v as u64 - 1);
+    Ok(Parameters { v: v as u64, b: b as u64, r, p: words[0].count_ones() as u64, l1, l2 })
+}
+
+pub fn judge(h: Head, blocks: &[u8]) -> Result<Parameters, Refusal> {
+    let mut words = [0; 2600];
+    develop(h, blocks, &mut words)?;
+    judge_words(h, &words)
+}
+
+/// A job worked out, beside what is laid into the lent rooms.
+#[derive(Clone, Copy, PartialEq, Debug)]
+pub struct Solved {
+    pub parameters: Parameters,
+    pub denominator: u64,
+    pub q: u64,
+    pub vbeta: u64,
+    pub freedom: u64,
+    pub hundredths: u64,
+    pub spread: Option<f64>,
+}
+
+/// What stands in a file: its head, where its blocks and its readings start, its restraint.
+struct Held {
+    head: Head,
+    third: usize,
+    set: u64,
+    sum: i64,
+}
+
+fn field(bytes: &[u8], at: usize, tag: u8, length: usize) -> Result<(), Refusal> {
+    if bytes.len() < at + 3 {
+        return Err((1, at));
+    }
+    if bytes[at] != tag {
+        return Err((2, at));
+    }
+    if u16::from_be_bytes([bytes[at + 1], bytes[at + 2]]) as usize != length {
+        return Err((3, at));
+    }
+    if bytes.len() < at + 3 + length {
+        return Err((1, at));
+    }
+    Ok(())
+}
+
+/// The four fields of a file in their order.
+fn fields(bytes: &[u8]) -> Result<Held, Refusal> {
+    field(bytes, 0, 1, 4)?;
+    let head = Head { n: bytes[3] as usize, flag: bytes[4] as usize, p: bytes[5] as usize, m: bytes[6] as usize };
+    if !sized(head) {
+        return Err((4, 0));
+    }
+    let third = 10 + 2 * head.p * head.m;
+    let fourth = third + 19;
+    let end = fourth + 3 + 4 * head.m * head.n;
+    field(bytes, 7, 2, third - 10)?;
+    field(bytes, third, 3, 16)?;
+    field(bytes, fourth, 4, 4 * head.m * head.n)?;
+    if end != bytes.len() {
+        return Err((9, end));
+    }
+    let set = u64::from_be_bytes(bytes[third + 3..third + 11].try_into().unwrap());
+    let sum = i64::from_be_bytes(bytes[third + 11..third + 19].try_into().unwrap());
+    Ok(Held { head, third, set, sum })
+}
+
+/// f summed over the left of a block less f over the right, and the other way round for T: both go by the bits of its words.
+fn sign(left: u64, right: u64, i: usize) -> i64 {
+    (left >> i) as i64 % 2 - (right >> i) as i64 % 2
+}
+
+fn root(x: u64) -> u64 {
+    let (mut low, mut high) = (0, 1 << 30);
+    while low + 1 < high {
+        let middle = (low + high) / 2;
+        if middle * middle <= x {
+            low = middle;
+        } else {
+            high = middle;
+        }
+    }
+    low
+}
+
+/// The largest k with k·k·d at most 10,000·q.
+fn largest(q: u64, d: u64) -> u64 {
+    let a = root(q / d);
+    let rest = 10000 * (q - a * a * d);
+    let mut e = 0;
+    while e < 99 && (200 * a + e + 1) * (e + 1) * d <= rest {
+        e += 1;
+    }
+    100 * a + e
+}
+
+/// Works a job file out into lent rooms.
+pub fn solve(bytes: &[u8], words: &mut [u64], values: &mut [i64], deviations: &mut [i64]) -> Result<Solved, Refusal> {
+    let Held { head, third, set, sum } = fields(bytes)?;
+    let (v, b) = (head.n + head.flag, head.m * head.n);
+    let mut readings = [0i32; 1300];
+    for (k, y) in bytes[third + 22..].chunks_exact(4).enumerate() {
+        readings[k] = i32::from_be_bytes([y[0], y[1], y[2], y[3]]);
+    }
+    let readings = &readings[..b];
+    let mut developed = [0; 2600];
+    develop(head, &bytes[10..third], &mut developed).map_err(|(k, at)| (k, if k == 5 { 10 + at } else { at }))?;
+    let parameters = judge_words(head, &developed)?;
+    if set == 0 || set >> v != 0 || sum.unsigned_abs() > 1_000_000_000 {
+        return Err((7, third));
+    }
+    if let Some(k) = readings.iter().position(|y| y.unsigned_abs() > 200_000) {
+        return Err((8, third + 22 + 4 * k));
+    }
+    if words.len() < 2 * b || values.len() < v || deviations.len() < b {
+        return Err((10, 0));
+    }
+    words[..2 * b].copy_from_slice(&developed[..2 * b]);
+    let mut totals = [0i64; 50];
+    for i in 0..v {
+        for k in 0..b {
+            totals[i] += sign(words[2 * k], words[2 * k + 1], i) * readings[k] as i64;
+        }
+    }
+    let totals = &totals[..v];
+    let vbeta = v as u64 * (parameters.l2 - parameters.l1);
+    let members = set.count_ones() as u64;
+    let over_set: i64 = totals.iter().enumerate().map(|(i, t)| (set >> i) as i64 % 2 * t).sum();
+    for i in 0..v {
+        values[i] = members as i64 * totals[i] - over_set + vbeta as i64 * sum;
+    }
+    for k in 0..b {
+        let fitted: i64 = totals.iter().enumerate().map(|(i, t)| sign(words[2 * k], words[2 * k + 1], i) * t).sum();
+        deviations[k] = vbeta as i64 * readings[k] as i64 - fitted;
+    }
+    let squared_readings: u64 = readings.iter().map(|&y| (y as i64 * y as i64) as u64).sum();
+    let squared_totals: u64 = totals.iter().map(|&t| (t * t) as u64).sum();
+    let q = vbeta * squared_readings - squared_totals;
+    let freedom = (b + 1 - v) as u64;
+    let hundredths = if freedom == 0 { 0 } else { largest(q, vbeta * freedom) };
+    let spread = if freedom == 0 { None } else { Some(hundredths as f64 / 100.0) };
+    Ok(Solved { parameters, denominator: members * vbeta, q, vbeta, freedom, hundredths, spread })
+}
+
+/// The judgement by another method, to say what it would save: one walk of the blocks, and in it only the objects of the block.
+pub fn judge_in_one_walk(h: Head, blocks: &[u8]) -> Result<Parameters, Refusal> {
+    let mut words = [0; 2600];
+    develop(h, blocks, &mut words)?;
+    let (v, b) = (h.n + h.flag, h.m * h.n);
+    let (mut company, mut opposition): (Table, Table) = ([[0; 50]; 50], [[0; 50]; 50]);
+    for block in words[..2 * b].chunks_exact(2) {
+        for (own, other) in [(block[0], block[1]), (block[1], block[0])] {
+            for i in ones(own) {
+                ones(own).for_each(|j| company[i][j] += 1);
+                ones(other).for_each(|j| opposition[i][j] += 1);
+            }
+        }
+    }
+    if !even(&company, &opposition, v) {
+        return Err((6, 0));
+    }
+    let (l1, l2) = (company[1][0], opposition[1][0]);
+    Ok(Parameters { v: v as u64, b: b as u64, r: (l2 - l1) * (v as u64 - 1), p: words[0].count_ones() as u64, l1, l2 })
+}
+
+/// The objects of a word.
+fn ones(mut word: u64) -> impl Iterator<Item = usize> {
+    std::iter::from_fn(move || {
+        (word != 0).then(|| {
+            let i = word.trailing_zeros() as usize;
+            word &= word - 1;
+            i
+        })
+    })
+}

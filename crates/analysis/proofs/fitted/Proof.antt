@@ -48,8 +48,7 @@ module _ (c : tie.After-total Inv-loop μ-loop) where
 
 loop-again : tie.Need-loop-again Inv-loop μ-loop
 loop-again c =
-    let next = plus (so-far c) (term c) (omega (arith, start c .pre .0 .few)) .reads ∙ sym (fitted-more (now (start c .args .totals)) (now (start c .args .words)) (i c) (start c .args .k)) in
-    (omega arith, cc)
+    (omega arith, rw (plus (so-far c) (term c) (omega (arith, start c .pre .0 .few)) .reads) (sym (fitted-more (now (start c .args .totals)) (now (start c .args .words)) (i c) (start c .args .k))))
 
 pub fitted-spec : {M : Type 1} → statement M
 fitted-spec =

@@ -57,8 +57,7 @@ module _ (c : tie.After-y Inv-loop μ-loop) where
 
 loop-again : tie.Need-loop-again Inv-loop μ-loop
 loop-again c =
-    let next = plus (sum c) (term c) (omega (arith, start c .pre .0 .blocks-most)) .reads ∙ sym (total-more (now (start c .args .words)) (now (start c .args .readings)) (k c) (start c .args .i)) in
-    (omega arith, cc)
+    (omega arith, rw (plus (sum c) (term c) (omega (arith, start c .pre .0 .blocks-most)) .reads) (sym (total-more (now (start c .args .words)) (now (start c .args .readings)) (k c) (start c .args .i))))
 
 returns : tie.Need-returns Inv-loop μ-loop
 returns c = let e : c .before .loop .k ≡ c .before .before .args .b = omega arith in cc

@@ -300,12 +300,16 @@ module _ (h : Head) (d : List ℕ) (y : List ℤ) (w : ℕ) (M : ℤ) (e : jobVe
       F : ℤ
       F = squaresOver h d y (pos (c .denominator)) (c .numerators)
 
-      -- the numerators differ as the fractions do
-      other : c .numerators i *ℤ pos (denominatorOf h d w) ≡ numeratorOf h d y w M i *ℤ pos (c .denominator) → ⊥
-      other q = differs (*ℤ-cancel-l (pos (c .denominator)) (u i .top *ℤ pos (denominatorOf h d w)) (numeratorOf h d y w M i *ℤ pos (u i .bottom)) (not-zero (c .denominator) (c .positive))
+      -- where the numerators are the exact ones, so is the fraction
+      exact : c .numerators i *ℤ pos (denominatorOf h d w) ≡ numeratorOf h d y w M i *ℤ pos (c .denominator) → u i =ᶠ exactValues h d y w M i
+      exact q = *ℤ-cancel-l (pos (c .denominator)) (u i .top *ℤ pos (denominatorOf h d w)) (numeratorOf h d y w M i *ℤ pos (u i .bottom)) (not-zero (c .denominator) (c .positive))
           (comb₂ (pos (denominatorOf h d w)) (pos (u i .bottom)) (c .each i l .same) q
           (ring₆ (λ t b e a d n. e ⊗ (t ⊗ d) ⊝ e ⊗ (n ⊗ b) ≐ d ⊗ (t ⊗ e ⊝ a ⊗ b) ⊕ b ⊗ (a ⊗ d ⊝ n ⊗ e))
-          (u i .top) (pos (u i .bottom)) (pos (c .denominator)) (c .numerators i) (pos (denominatorOf h d w)) (numeratorOf h d y w M i) refl)))
+          (u i .top) (pos (u i .bottom)) (pos (c .denominator)) (c .numerators i) (pos (denominatorOf h d w)) (numeratorOf h d y w M i) refl))
+
+      -- the numerators differ as the fractions do
+      other : c .numerators i *ℤ pos (denominatorOf h d w) ≡ numeratorOf h d y w M i *ℤ pos (c .denominator) → ⊥
+      other q = differs (search (exact q))
 
   -- the published values over 100
   published-squares : Over (100 * 100) (squaresOver h d y (pos 100) (published h d y w M)) (squaresUnder h d y (publishedValues h d y w M))

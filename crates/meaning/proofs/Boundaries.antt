@@ -5,7 +5,6 @@ use Prim.Native.Nat.{ℕ, zero, suc}
 use mathlib.Core.Bool.{true, false}
 use mathlib.Core.List.{List, [], _∷_, _++_, replicate}
 use mathlib.Core.Path.{_≡_, refl}
-use native.Mathlib.Nat.{le-refl}
 use native.Mathlib.Omega.{arith}
 use lib.IntN.{ℤ, pos, negsuc}
 use lib.Ieee.{round, fin}
@@ -424,7 +423,7 @@ boundaries = refl
 -- the f64 of 1/3 is away from it by its size over 2 to the 54th, and no nearer
 pub near-third : Near 54 (float (pos 1) 3) (pos 1) 3
 unfolding round
-near-third = (refl, le-refl 18014398509481984)
+near-third = (refl, omega arith)
 
 pub no-nearer : Near 55 (float (pos 1) 3) (pos 1) 3 → ⊥
 unfolding round

@@ -7,7 +7,9 @@ use Rattle.refusals.proofs.refusal.Statement.{statement}
 use Rattle.refusals.proofs.refusal.Tie as tie
 
 returns : tie.Need-returns
-returns c = ap (λ (r : Judged). r .verdict) (rw (toZ-ofZ (c .before .before .fits .sum)) at (c .judged-job .ensures))
+returns c =
+    let told = rw (toZ-ofZ (c .before .before .fits .sum)) at (c .judged-job .ensures) in
+    search (ap (λ (r : Judged). r .verdict) told)
 
 pub refusal-spec : {M : Type 1} → statement M
 refusal-spec = tie.close (tie.spec (λ c κs. search needs) returns)

@@ -3,6 +3,8 @@
 --     over-step    a store of f i at i makes it the same at i + 1
 --     over-end     where i has come to v
 --     over-lent    a part that was lent as `&mut xs[m..]`
+--     over-full    a room that is full stays as it is
+--     over-long    and it keeps its length
 --     over-join    a part from m on that was lent and written over, put back behind the first m
 -- Assumes nothing.
 use mathlib.Core.Path.{_≡_, refl, sym, ap, ap₂, _∙_}
@@ -96,3 +98,17 @@ module _ {A : Type 0} where
   unfolding over
   over-nothing zero f = refl
   over-nothing (suc v) f = refl
+
+-- a room that is full at i stays as it is
+pub over-full : {A : Type 0} (i v : ℕ) (f : ℕ → A) (l : List A) → length l ≤ i → i ≤ v → over i f l ≡ over v f l
+unfolding over
+over-full zero zero f l h e = refl
+over-full zero (suc v) f [] h e = refl
+over-full zero (suc v) f (x ∷ l) h e = absurd (not-suc-le-zero h)
+over-full (suc i) zero f l h e = absurd (not-suc-le-zero e)
+over-full (suc i) (suc v) f [] h e = refl
+over-full {A = A} (suc i) (suc v) f (x ∷ l) h e = ap (λ (t : List A). f 0 ∷ t) (over-full i v (λ (k : ℕ). f (suc k)) l (le-of-suc-le-suc h) (le-of-suc-le-suc e))
+
+-- a room is as long after it was written
+pub over-long : {A : Type 0} (k : ℕ) (f : ℕ → A) (room after : List A) → after ≡ over k f room → length after ≡ length room
+over-long k f room after e = ap length e ∙ length-over k f room

@@ -6,7 +6,6 @@ use native.Mathlib.Omega.{arith}
 use lib.IntN.{ℤ}
 use lib.ListN.{length, take, drop}
 use Rattle.algebra.specs.Buffers.{over}
-use Rattle.algebra.proofs.Filling.{length-over}
 use Rattle.meaning.specs.declared.Head.{Head}
 use Rattle.meaning.specs.declared.JobRead.{JobRead}
 use Rattle.meaning.specs.declared.Solved.{Solved}
@@ -30,10 +29,6 @@ sum-part s third M e p = rw e at p
 -- the bytes from place 10 up to the third field are the blocks
 pub blocks-part : (s : List ℕ) (third : ℕ) → third ≡ thirdAt s → take (third - 10) (drop 10 s) ≡ blocksOf s
 blocks-part s third e = let c : third - 10 ≡ listLength (headOf s) = omega (arith, e) in ap (λ (c : ℕ). take c (drop 10 s)) c
-
--- a room is as long after it was written
-pub written-long : {A : Type 0} (b : ℕ) (f : ℕ → A) (room after : List A) → after ≡ over b f room → length after ≡ length room
-written-long b f room after e = ap length e ∙ length-over b f room
 
 -- the start of a room that was written with a file's readings is these
 pub readings-part : (s : List ℕ) (third b : ℕ) (room after : List ℤ) → third ≡ thirdAt s → b ≡ blocks (headOf s) → b ≤ length room

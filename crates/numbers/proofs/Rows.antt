@@ -1,4 +1,4 @@
--- Laws of the numbers that stand one after another in the bytes, and of a room that is written with them: how many, which, and what the room's start is. Assumes nothing.
+-- Laws of the numbers that stand one after another in the bytes, and of a room that is written with them: which, and what the room's start is. Assumes nothing.
 use Prim.Native.Nat.{ℕ, zero, suc, _+_, _*_, _<_, _≤_}
 use mathlib.Core.Path.{_≡_, refl, sym, ap, ap₂, _∙_}
 use mathlib.Core.List.{List, [], _∷_}
@@ -22,12 +22,6 @@ first s at = ap (λ (place : ℕ). twos 32 (big s place 4)) (omega arith)
 next : (s : List ℕ) (at k : ℕ) → numberOf s at (suc k) ≡ numberOf s (at + 4) k
 next s at k = ap (λ (place : ℕ). twos 32 (big s place 4)) (omega arith)
 
--- there are c of them
-pub length-numbers : (s : List ℕ) (at c : ℕ) → length (numbersAt s at c) ≡ c
-unfolding numbersAt
-length-numbers s at zero = refl
-length-numbers s at (suc c) = ap suc (length-numbers s (at + 4) c)
-
 -- which stands at k
 pub getD-numbers : (s : List ℕ) (at c k : ℕ) → k < c → getD (numbersAt s at c) k (pos 0) ≡ numberOf s at k
 unfolding numbersAt
@@ -43,13 +37,3 @@ take-numbers s at (suc c) [] h = absurd (not-suc-le-zero h)
 take-numbers s at (suc c) (x ∷ l) h =
     ap₂ (λ (y : ℤ) (ys : List ℤ). y ∷ ys) (first s at)
     (ap (take c) (over-ext c (λ (k : ℕ). numberOf s at (suc k)) (numberOf s (at + 4)) l (λ k hk. next s at k)) ∙ take-numbers s (at + 4) c l (le-of-suc-le-suc h))
-
--- a room that is full at i stays as it is
-pub over-full : {A : Type 0} (i v : ℕ) (f : ℕ → A) (l : List A) → length l ≤ i → i ≤ v → over i f l ≡ over v f l
-unfolding over
-over-full zero zero f l h e = refl
-over-full zero (suc v) f [] h e = refl
-over-full zero (suc v) f (x ∷ l) h e = absurd (not-suc-le-zero h)
-over-full (suc i) zero f l h e = absurd (not-suc-le-zero e)
-over-full (suc i) (suc v) f [] h e = refl
-over-full {A = A} (suc i) (suc v) f (x ∷ l) h e = ap (λ (t : List A). f 0 ∷ t) (over-full i v (λ (k : ℕ). f (suc k)) l (le-of-suc-le-suc h) (le-of-suc-le-suc e))

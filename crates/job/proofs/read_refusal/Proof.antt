@@ -10,11 +10,12 @@ use lib.ListN.{take, drop}
 use mir.Syntax.{w64}
 use mir.Val.{toZ, ofZ}
 use Rattle.algebra.proofs.Signs.{read-back}
+use Rattle.algebra.proofs.Filling.{over-long}
 use Rattle.meaning.specs.Refusals.{accepted}
 use Rattle.meaning.specs.File.{headOf, thirdAt, blocksOf, setOf, sumOf, readingsOf, fields, readVerdict}
 use Rattle.laws.proofs.Files.{filed}
 use Rattle.job.proofs.Places.{third-low, readings-most}
-use Rattle.job.proofs.Holding.{written-long, set-part, sum-part, blocks-part, readings-part, read-place, read-direct}
+use Rattle.job.proofs.Holding.{set-part, sum-part, blocks-part, readings-part, read-place, read-direct}
 use Rattle.job.proofs.read_refusal.Statement.{statement}
 use Rattle.job.proofs.read_refusal.Tie as tie
 
@@ -34,7 +35,7 @@ part-refusal-end : tie.Need-part-refusal-end
 part-refusal-end c = omega (arith, filed _ (passed (c .before .before .before .before .before .before .before .before)) .ends)
 
 part-refusal-end-2 : tie.Need-part-refusal-end-2
-part-refusal-end-2 c = omega (arith, readings-most _ (passed (c .before .before .before .before .before .before .before .before .before .before)), c .before .before .before .before .before .before .before .block-count .ensures, written-long _ _ _ _ (c .before .before .before .readings .ensures))
+part-refusal-end-2 c = omega (arith, readings-most _ (passed (c .before .before .before .before .before .before .before .before .before .before)), c .before .before .before .before .before .before .before .block-count .ensures, over-long _ _ _ _ (c .before .before .before .readings .ensures))
 
 -- what the direct call was handed
 module _ (c : tie.After-refusal) where

@@ -10,11 +10,12 @@ use lib.ListN.{take, drop}
 use mir.Syntax.{w64}
 use mir.Val.{toZ, ofZ}
 use Rattle.algebra.proofs.Signs.{read-back}
+use Rattle.algebra.proofs.Filling.{over-long}
 use Rattle.meaning.specs.Refusals.{accepted}
 use Rattle.meaning.specs.File.{headOf, thirdAt, blocksOf, setOf, sumOf, readingsOf, fields, readVerdict, solveVerdict}
 use Rattle.laws.proofs.Files.{filed}
 use Rattle.job.proofs.Places.{third-low, readings-most}
-use Rattle.job.proofs.Holding.{written-long, set-part, sum-part, blocks-part, readings-part, solve-place, solved-direct, words-direct, values-direct, deviations-direct}
+use Rattle.job.proofs.Holding.{set-part, sum-part, blocks-part, readings-part, solve-place, solved-direct, words-direct, values-direct, deviations-direct}
 use Rattle.job.proofs.solve.Statement.{statement}
 use Rattle.job.proofs.solve.Tie as tie
 
@@ -36,7 +37,7 @@ part-analyse-end : tie.Need-part-analyse-end
 part-analyse-end c = omega (arith, filed _ (passed (c .before .before .before .before .before .before .before .before)) .ends)
 
 part-analyse-end-2 : tie.Need-part-analyse-end-2
-part-analyse-end-2 c = omega (arith, readings-most _ (passed (c .before .before .before .before .before .before .before .before .before .before)), c .before .before .before .before .before .before .before .block-count .ensures, written-long _ _ _ _ (c .before .before .before .readings .ensures))
+part-analyse-end-2 c = omega (arith, readings-most _ (passed (c .before .before .before .before .before .before .before .before .before .before)), c .before .before .before .before .before .before .before .block-count .ensures, over-long _ _ _ _ (c .before .before .before .readings .ensures))
 
 -- what the direct call was handed
 module _ (c : tie.After-analyse) where

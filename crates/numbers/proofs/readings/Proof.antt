@@ -9,8 +9,8 @@ use mir.ValLaws.{toZ-ofZ}
 use denote.Ref.{now}
 use borrow.Author.Needs.{needs}
 use Rattle.algebra.specs.Buffers.{over}
-use Rattle.algebra.proofs.Filling.{over-none, over-step, over-end}
-use Rattle.numbers.proofs.Rows.{numberOf, over-full}
+use Rattle.algebra.proofs.Filling.{over-none, over-step, over-end, over-full}
+use Rattle.numbers.proofs.Rows.{numberOf}
 use Rattle.numbers.proofs.readings.Statement.{statement}
 use Rattle.numbers.proofs.readings.Tie as tie
 

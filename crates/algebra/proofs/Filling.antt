@@ -2,7 +2,8 @@
 --     over-none    with none written it is the list
 --     over-step    a store of f i at i makes it the same at i + 1
 --     over-end     where i has come to v
---     over-lent    a part that was lent as `&mut xs[m..]`
+--     lent-back    a part that was lent as `&mut xs[m..]` and written over, put back
+--     over-lent    the same behind a part that was written before
 --     over-full    a room that is full stays as it is
 --     over-long    and it keeps its length
 --     over-join    a part from m on that was lent and written over, put back behind the first m
@@ -78,11 +79,11 @@ module _ {A : Type 0} where
       ap (λ (t : List A). g 0 ∷ t) (over-join m k f (λ (i : ℕ). g (suc i)) l (λ i hi. h i hi ∙ ap g (suc-add m i)))
       ∙ ap (λ (n : ℕ). over n g (x ∷ l)) (sym (suc-add m k))
 
-  -- what a callee that was lent `&mut xs[m..]` wrote over the part, said of the whole
-  pub over-lent : (m k : ℕ) (f g : ℕ → A) (l : List A) {xs ys : List A} → xs ≡ over m g l → ys ≡ over k f (midOf m (length xs - m) xs)
-      → ((i : ℕ) → i < k → f i ≡ g (m + i)) → putMid m (length xs - m) xs ys ≡ over (m + k) g l
-  over-lent m k f g l {xs} {ys} p q h =
-      ap₂ (λ (u v : List A). take m xs ++ (u ++ v)) (q ∙ ap (over k f) mid) post ∙ ap (λ (u : List A). take m xs ++ u) (append-nil (over k f (drop m xs))) ∙ rw p (over-join m k f g l h)
+  -- a part from m on that was lent as `&mut xs[m..]` and written over, put back behind what stands before it
+  pub lent-back : (m k : ℕ) (f : ℕ → A) (xs : List A) {ys : List A} → ys ≡ over k f (midOf m (length xs - m) xs)
+      → putMid m (length xs - m) xs ys ≡ take m xs ++ over k f (drop m xs)
+  lent-back m k f xs {ys} q =
+      ap₂ (λ (u v : List A). take m xs ++ (u ++ v)) (q ∙ ap (over k f) mid) post ∙ ap (λ (u : List A). take m xs ++ u) (append-nil (over k f (drop m xs)))
     where
       rest : length (drop m xs) ≤ length xs - m
       rest = le-of-eq (length-drop m xs)
@@ -92,6 +93,11 @@ module _ {A : Type 0} where
 
       post : drop (length xs - m) (drop m xs) ≡ []
       post = drop-of-length-le (drop m xs) rest
+
+  -- the same behind a part that was written before
+  pub over-lent : (m k : ℕ) (f g : ℕ → A) (l : List A) {xs ys : List A} → xs ≡ over m g l → ys ≡ over k f (midOf m (length xs - m) xs)
+      → ((i : ℕ) → i < k → f i ≡ g (m + i)) → putMid m (length xs - m) xs ys ≡ over (m + k) g l
+  over-lent m k f g l {xs} p q h = lent-back m k f xs q ∙ rw p (over-join m k f g l h)
 
   -- of no list, nothing
   pub over-nothing : (v : ℕ) (f : ℕ → A) → over v f [] ≡ []

@@ -2,22 +2,19 @@
 --     word-more              the first byte's bit and the rest
 --     word-most              a side of at most 25 objects is below 2 ^ 55
 --     left-lent, right-lent  word 2nj + 2s is initial block j's left side at the shift s, and the next its right side
---     lent-back              a part that was lent and written over, put back behind what stands before it
 -- Assumes nothing.
 use Prim.Native.Nat.{ℕ, _+_, _-_, _*_, _/_, _%_, _^_, _≤_, _<_}
-use mathlib.Core.Path.{_≡_, sym, ap, ap₂, _∙_}
+use mathlib.Core.Path.{_≡_, sym, ap, _∙_}
 use mathlib.Core.Bool.{Bool, true, false, cond}
-use mathlib.Core.List.{List, [], _∷_, _++_, map, append-nil}
+use mathlib.Core.List.{List, [], _∷_, map}
 use native.Mathlib.Numerals.{add-one}
 use native.Mathlib.Omega.{arith}
-use native.Mathlib.Nat.{le-of-eq, le-trans, le-of-lt, mod-lt, one-mul, mul-assoc, mul-comm, mul-suc, mul-le-mul-left}
+use native.Mathlib.Nat.{le-trans, le-of-lt, mod-lt, one-mul, mul-assoc, mul-comm, mul-suc, mul-le-mul-left}
 use lib.Arith.{digits-div, digits-mod}
 use lib.Dec.{eqb, lit<}
 use lib.Pow.{pow-mono, shl-exact}
-use lib.ListN.{length, getD, take, drop, length-drop, drop-of-length-le}
-use lib.Seq.{drop-cons, drop-length, take-all}
-use borrow.Rule.Slice.PartMut.{midOf, putMid}
-use Rattle.algebra.specs.Buffers.{over}
+use lib.ListN.{length, getD, take, drop}
+use lib.Seq.{drop-cons, drop-length}
 use Rattle.meaning.specs.declared.Head.{Head}
 use Rattle.meaning.specs.Design.{plus, moved, left, right}
 use Rattle.meaning.specs.Calls.{word, wordAt}
@@ -106,18 +103,3 @@ module _ (h : Head) (d : List ℕ) (j s : ℕ) (below : s < h .n) where
   right-lent =
       let e : 2 * h .p * j + h .p + h .p - (2 * h .p * j + h .p) ≡ h .p = omega arith in
       rw e right-at
-
--- a part from m on that was lent and written over, put back behind what stands before it
-pub lent-back : (m k : ℕ) (f : ℕ → ℕ) (xs : List ℕ) {ys : List ℕ} → ys ≡ over k f (midOf m (length xs - m) xs)
-    → putMid m (length xs - m) xs ys ≡ take m xs ++ over k f (drop m xs)
-lent-back m k f xs {ys} q =
-    ap₂ (λ (u v : List ℕ). take m xs ++ (u ++ v)) (q ∙ ap (over k f) mid) post ∙ ap (λ (u : List ℕ). take m xs ++ u) (append-nil (over k f (drop m xs)))
-  where
-    rest : length (drop m xs) ≤ length xs - m
-    rest = le-of-eq (length-drop m xs)
-
-    mid : take (length xs - m) (drop m xs) ≡ drop m xs
-    mid = take-all (length xs - m) (drop m xs) rest
-
-    post : drop (length xs - m) (drop m xs) ≡ []
-    post = drop-of-length-le (drop m xs) rest

@@ -8,7 +8,8 @@ use lib.ListN.{length, length-take, length-drop}
 use Rattle.meaning.specs.Refusals.{accepted}
 use Rattle.meaning.specs.Calls.{designVerdict, initialVerdict}
 use Rattle.laws.proofs.Chains.{sound}
-use Rattle.development.proofs.Parts.{part-in, twice, lent-back}
+use Rattle.algebra.proofs.Filling.{lent-back}
+use Rattle.development.proofs.Parts.{part-in, twice}
 use native.Mathlib.Omega.{arith}
 use borrow.Author.Needs.{needs}
 use Rattle.development.proofs.develop_initial.Statement.{statement}

@@ -1,16 +1,17 @@
 -- What an accepted job gives to the calls below it, and what is worked out from its totals: the definitions' own values, deviations and spread. Assumes nothing.
-use mathlib.Core.Path.{_≡_, refl, sym, ap, ap₂, _∙_, subst}
+use mathlib.Core.Path.{_≡_, refl, sym, ap, ap₂, _∙_, subst, subst₂}
 use mathlib.Core.Bool.{true}
 use mathlib.Core.List.{List}
-use Prim.Native.Nat.{ℕ, _+_, _-_, _*_, _≤_, _<_}
+use Prim.Native.Nat.{ℕ, _+_, _-_, _*_, _^_, _≤_, _<_}
+use native.Mathlib.Nat.{mul-le-mul}
 use native.Mathlib.Omega.{arith}
-use borrow.Author.Tests.{le-leb, lt-leb, leb-true}
+use borrow.Author.Tests.{le-leb, leb-true}
 use lib.Dec.{leb}
 use lib.ListN.{getD, length}
 use lib.IntN.{ℤ, pos, natAbs, _-ℤ_, _*ℤ_}
 use Rattle.algebra.specs.Ranges.{sum}
 use Rattle.algebra.specs.Buffers.{over}
-use Rattle.algebra.proofs.Filling.{getD-over, length-over}
+use Rattle.algebra.proofs.Filling.{getD-over, length-over, over-ext}
 use Rattle.algebra.proofs.Solver.{_⊕_, _⊗_, _⊝_, #, _≐_, ring₃}
 use Rattle.algebra.proofs.Order.{pos-inj, comb₁}
 use Rattle.algebra.proofs.Bounds.{sum-squares}
@@ -18,23 +19,23 @@ use Rattle.algebra.proofs.Sums.{sum-cong}
 use Rattle.meaning.specs.declared.Head.{Head}
 use Rattle.meaning.specs.declared.Verdict.{Verdict}
 use Rattle.meaning.specs.declared.Parameters.{Parameters}
-use Rattle.meaning.specs.declared.Spreading.{Spreading}
-use Rattle.meaning.specs.declared.Solved.{Solved}
-use Rattle.meaning.specs.Design.{objects, blocks, listLength, balanced, company, opposition, beta, parametersOf}
-use Rattle.meaning.specs.Analysis.{reading, total, member, members, restrained, numerator, vbeta, numeratorOf, denominatorOf, difference, deviationOf, squaredReadings, squaredTotals, qOf, freedom, spreadHundredthsOf}
+use Rattle.meaning.specs.Design.{objects, blocks, listLength, balanced, parametersOf}
+use Rattle.meaning.specs.Analysis.{reading, total, member, members, restrained, numerator, denominator, vbeta, numeratorOf, denominatorOf, deviationOf, squaredReadings, squaredTotals, qOf, freedom, spreadHundredthsOf}
 use Rattle.meaning.specs.Publishing.{spreadOf}
 use Rattle.meaning.specs.Refusals.{_⨾_, accepted, refused, sizes, lengthIs, clean, inBalance, restraint, inReach, room}
-use Rattle.meaning.specs.Calls.{slices, contents, jobVerdict, squaredReadingsVerdict, squaredTotalsVerdict, spreadingOf, rooms, analyseVerdict, solvedUnder}
+use Rattle.meaning.specs.Calls.{slices, contents, wordAt, jobVerdict, squaredReadingsVerdict, squaredTotalsVerdict, spreadingOf, rooms, analyseVerdict, solvedUnder}
 use Rattle.laws.specs.Fits.{Fits}
-use Rattle.laws.proofs.Chains.{Sound, Readings, opened, held, accepts, goes-on, refused-stays, test-yes, test-no, accepted-last, job}
-use Rattle.laws.proofs.Counting.{parameters}
+use Rattle.laws.proofs.Chains.{Sound, Readings, Job, opened, held, accepts, goes-on, test-yes, accepted-last, job}
+use Rattle.laws.proofs.Counting.{Numbers, parameters}
 use Rattle.laws.proofs.Matrix.{difference-signs}
 use Rattle.laws.proofs.Analysis.{vbeta-some, q-nonneg}
-use Rattle.laws.proofs.Sizes.{vbeta-most, total-most, q-most}
+use Rattle.laws.proofs.Sizes.{vbeta-most, total-most, squared-readings-most, q-most}
 use Rattle.spread.specs.Hundredths.{spreadingFrom}
 use Rattle.spread.proofs.Range.{Ranged, hundredths-is}
-use Rattle.totals.proofs.Developing.{Laid}
-use Rattle.analysis.specs.Worked.{totalAt, Totalled, numeratorIn, fittedIn, deviationIn, solution, noSolution}
+use Rattle.totals.specs.Developed.{Weighed}
+use Rattle.totals.proofs.Developing.{Laid, laid}
+use Rattle.analysis.proofs.Working.{fitted-signs}
+use Rattle.analysis.specs.Worked.{totalAt, Totalled, Measured, numeratorIn, deviationIn, scaleIn, Workable, workedOut, noSolution}
 
 -- ---- verdicts
 
@@ -63,46 +64,9 @@ totals-readings h d y e =
     let f = opened (sizes h) (lengthIs (length d) (listLength h)) (c .0) in
     accepts (accepts (f .0) (c .1)) (a .1)
 
-module _ (h : Head) (d : List ℕ) (y : List ℤ) (w : ℕ) (M : ℤ) (words values deviations : ℕ) where
-  -- a refused job
-  pub analyse-refused : (k at : ℕ) → jobVerdict h d y w M ≡ refused k at → analyseVerdict h d y w M words values deviations ≡ refused k at
-  unfolding analyseVerdict
-  analyse-refused k at e = refused-stays _ k at e
-
-  -- an accepted job: the rooms decide
-  pub analyse-rooms : jobVerdict h d y w M ≡ accepted → analyseVerdict h d y w M words values deviations ≡ rooms h words values deviations
-  unfolding analyseVerdict
-  analyse-rooms e = goes-on _ e
-
 -- ---- rooms
 
 module _ (h : Head) (words values deviations : ℕ) where
-  -- no room for the words
-  pub no-words : words < 2 * blocks h → rooms h words values deviations ≡ refused 10 0
-  unfolding rooms
-  no-words a = refused-stays _ 10 0 (refused-stays _ 10 0 (test-no (leb (2 * blocks h) words) 10 0 (lt-leb _ _ a)))
-
-  module _ (l : 2 * blocks h ≤ words) where
-    -- none for the values
-    pub no-values : values < objects h → rooms h words values deviations ≡ refused 10 0
-    unfolding rooms
-    no-values a = refused-stays _ 10 0 (goes-on _ (test-yes (leb (2 * blocks h) words) 10 0 (le-leb _ _ l)) ∙ test-no (leb (objects h) values) 10 0 (lt-leb _ _ a))
-
-    module _ (m : objects h ≤ values) where
-      -- none for the deviations
-      pub no-deviations : deviations < blocks h → rooms h words values deviations ≡ refused 10 0
-      unfolding rooms
-      no-deviations a =
-          goes-on _ (accepts (test-yes (leb (2 * blocks h) words) 10 0 (le-leb _ _ l)) (test-yes (leb (objects h) values) 10 0 (le-leb _ _ m)))
-          ∙ test-no (leb (blocks h) deviations) 10 0 (lt-leb _ _ a)
-
-      -- room for all
-      pub roomy : blocks h ≤ deviations → rooms h words values deviations ≡ accepted
-      unfolding rooms
-      roomy a =
-          accepts (accepts (test-yes (leb (2 * blocks h) words) 10 0 (le-leb _ _ l)) (test-yes (leb (objects h) values) 10 0 (le-leb _ _ m)))
-          (test-yes (leb (blocks h) deviations) 10 0 (le-leb _ _ a))
-
   -- accepted rooms are long enough
   pub enough : rooms h words values deviations ≡ accepted → (2 * blocks h ≤ words) × (objects h ≤ values) × (blocks h ≤ deviations)
   unfolding rooms
@@ -111,53 +75,46 @@ module _ (h : Head) (words values deviations : ℕ) where
       let b = opened _ _ (a .0) in
       (leb-true _ _ (held _ _ _ (b .0)), leb-true _ _ (held _ _ _ (b .1)), leb-true _ _ (held _ _ _ (a .1)))
 
+-- an accepted analysis is of an accepted job, in rooms that are long enough
+pub analysed : (h : Head) (d : List ℕ) (y : List ℤ) (w : ℕ) (M : ℤ) (words values deviations : ℕ) → analyseVerdict h d y w M words values deviations ≡ accepted →
+    (jobVerdict h d y w M ≡ accepted) × ((2 * blocks h ≤ words) × (objects h ≤ values) × (blocks h ≤ deviations))
+unfolding analyseVerdict
+analysed h d y w M words values deviations e = let (a, b) = opened _ _ e in (a, enough h words values deviations b)
+
 -- ---- from the totals
 
 module _ (h : Head) (d : List ℕ) (y : List ℤ) (room totals : List ℤ) (l : objects h ≤ length room) (e : totals ≡ over (objects h) (total h d y) room) where
   -- a total stands at its place
-  pub total-at : (i : ℕ) → i < objects h → totalAt totals i ≡ total h d y i
+  total-at : (i : ℕ) → i < objects h → totalAt totals i ≡ total h d y i
   total-at i m = ap (λ (x : List ℤ). getD x i (pos 0)) e ∙ getD-over (objects h) (total h d y) room (pos 0) i m l
 
   -- the numerators are the definition's
-  pub numerators-are : (w : ℕ) (M : ℤ) (i : ℕ) → i < objects h → numeratorIn totals (objects h) w (vbeta h d) M i ≡ numeratorOf h d y w M i
+  numerator-is : (w : ℕ) (M : ℤ) (i : ℕ) → i < objects h → numeratorIn totals (objects h) w (vbeta h d) M i ≡ numeratorOf h d y w M i
   unfolding numeratorOf restrained
-  numerators-are w M i m =
+  numerator-is w M i m =
       ap₂ (λ (T S : ℤ). numerator (members (objects h) w) T S (vbeta h d) M) (total-at i m)
       (sum-cong (objects h) _ _ (λ j n. ap (λ (T : ℤ). pos (member w j) *ℤ T) (total-at j n)))
 
   -- the deviation numerators are the definition's
-  pub deviations-are : (words : List ℕ) → Sound h d → Laid h d y words → (k : ℕ) → k < blocks h → deviationIn words y totals (objects h) (vbeta h d) k ≡ deviationOf h d y k
-  unfolding deviationOf fittedIn
-  deviations-are words s a k m =
+  deviation-is : (words : List ℕ) → Sound h d → Laid h d y words → (k : ℕ) → k < blocks h → deviationIn words y totals (objects h) (vbeta h d) k ≡ deviationOf h d y k
+  unfolding deviationOf
+  deviation-is words s a k m =
       ap (λ (F : ℤ). pos (vbeta h d) *ℤ reading y k -ℤ F)
-      (sum-cong (objects h) _ _ (λ i n. ap₂ _*ℤ_ (a .signs k i m) (total-at i n)) ∙ sym (difference-signs h d s (total h d y) k m))
+      (fitted-signs totals words (objects h) k ∙ sum-cong (objects h) _ _ (λ i n. ap₂ _*ℤ_ (a .signs k i m) (total-at i n)) ∙ sym (difference-signs h d s (total h d y) k m))
 
--- what was filled with the totals is a room of totals
-pub totalled-from : (h : Head) (d : List ℕ) (y : List ℤ) (room totals : List ℤ) → objects h ≤ length room → totals ≡ over (objects h) (total h d y) room →
-    Sound h d → Readings h y → Totalled totals (objects h)
-totalled-from h d y room totals l e s r = record {
-  few = s .sizes .objects-most;
-  long = subst (λ (x : List ℤ). objects h ≤ length x) (sym e) (omega (arith, length-over (objects h) (total h d y) room));
-  most = λ i m. subst (λ (z : ℤ). natAbs z ≤ 260000000) (sym (total-at h d y room totals l e i m)) (total-most h d s y r i);
-}
+  -- a room of totals
+  totalled : Sound h d → Readings h y → Totalled totals (objects h)
+  totalled s r = record {
+    few = s .sizes .objects-most;
+    long = subst (λ (x : List ℤ). objects h ≤ length x) (sym e) (omega (arith, length-over (objects h) (total h d y) room));
+    most = λ i m. subst (λ (z : ℤ). natAbs z ≤ 260000000) (sym (total-at i m)) (total-most h d s y r i);
+  }
 
--- the denominator is t·v·beta
-pub denominator-is : (h : Head) (d : List ℕ) (w t vb : ℕ) → t ≡ members (objects h) w → vb ≡ vbeta h d → t * vb ≡ denominatorOf h d w
-unfolding denominatorOf
-denominator-is h d w t vb e f = ap₂ _*_ e f
-
--- the record of a job is made from its parts
-pub solution-is : (h : Head) (d : List ℕ) (y : List ℤ) (w : ℕ) (p : Parameters) (e : ℕ) (s : Spreading) → p ≡ parametersOf h d → e ≡ denominatorOf h d w → s ≡ spreadingOf h d y
-    → _≡_ {A = Solved} (record { verdict = accepted; parameters = p; denominator = e; spreading = s }) (solution h d y w)
-solution-is h d y w p e s f g k = λ j. record { verdict = accepted; parameters = f j; denominator = g j; spreading = k j }
-
--- under an acceptance it is the record of the job
-pub solved-is : (verdict : Verdict) (h : Head) (d : List ℕ) (y : List ℤ) (w : ℕ) → verdict ≡ accepted → solution h d y w ≡ solvedUnder verdict h d y w
-solved-is verdict h d y w e = sym (ap (λ (v : Verdict). solvedUnder v h d y w) e)
+-- ---- records
 
 -- under a refusal it holds zeros
-pub no-solution-is : (verdict : Verdict) (h : Head) (d : List ℕ) (y : List ℤ) (w k at : ℕ) → verdict ≡ refused k at → noSolution (refused k at) ≡ solvedUnder verdict h d y w
-no-solution-is verdict h d y w k at e = sym (ap (λ (v : Verdict). solvedUnder v h d y w) e)
+pub no-solution-is : (told verdict : Verdict) (h : Head) (d : List ℕ) (y : List ℤ) (w k at : ℕ) → told ≡ verdict → verdict ≡ refused k at → noSolution told ≡ solvedUnder verdict h d y w
+no-solution-is told verdict h d y w k at p e = ap noSolution (p ∙ e) ∙ sym (ap (λ (v : Verdict). solvedUnder v h d y w) e)
 
 -- ---- the spread
 
@@ -173,7 +130,7 @@ natural-difference a b c e =
 
 module _ (h : Head) (d : List ℕ) (s : Sound h d) (b : balanced h d ≡ true) (y : List ℤ) where
   -- Q as the code has it
-  pub q-is : (natAbs (squaredTotals h d y) ≤ vbeta h d * natAbs (squaredReadings h y)) × (vbeta h d * natAbs (squaredReadings h y) - natAbs (squaredTotals h d y) ≡ qOf h d y)
+  q-is : (natAbs (squaredTotals h d y) ≤ vbeta h d * natAbs (squaredReadings h y)) × (vbeta h d * natAbs (squaredReadings h y) - natAbs (squaredTotals h d y) ≡ qOf h d y)
   unfolding squaredReadings squaredTotals
   q-is = natural-difference (qOf h d y) (vbeta h d * natAbs (squaredReadings h y)) (natAbs (squaredTotals h d y))
       (q-nonneg h d s b y
@@ -182,7 +139,7 @@ module _ (h : Head) (d : List ℕ) (s : Sound h d) (b : balanced h d ≡ true) (
       (own-size (squaredTotals h d y) _ (sum-squares (objects h) (total h d y))))
 
   -- the spread that is made from it
-  pub spreading-of : Readings h y → spreadingFrom (qOf h d y) (vbeta h d) (freedom h) ≡ spreadingOf h d y
+  spreading-of : Readings h y → spreadingFrom (qOf h d y) (vbeta h d) (freedom h) ≡ spreadingOf h d y
   unfolding spreadHundredthsOf
   spreading-of r =
       let range : Ranged (qOf h d y) (vbeta h d) (freedom h) = record {
@@ -199,13 +156,85 @@ module _ (h : Head) (d : List ℕ) (s : Sound h d) (b : balanced h d ≡ true) (
         spread = spreadOf (hundredths-is (qOf h d y) (vbeta h d) (freedom h) range j) (freedom h);
       }
 
-  -- f is not below 0
-  pub freedom-some : objects h ≤ blocks h + 1
-  freedom-some = omega (arith, parameters h d s b .enough)
+  module _ (r : Readings h y) (e : squaredTotalsVerdict h d y ≡ accepted) (vb squares : ℕ) (f : vb ≡ vbeta h d) (g : squares ≡ natAbs (squaredTotals h d y)) where
+    -- what is measured
+    measured : Measured h y vb squares
+    measured = record {
+      sizes = s .sizes;
+      squared = totals-readings h d y e;
+      q-some = subst₂ (λ (t v : ℕ). t ≤ v * natAbs (squaredReadings h y)) (sym g) (sym f) (q-is .0);
+      q-most = subst (λ (v : ℕ). v * natAbs (squaredReadings h y) ≤ 135200000000000000) (sym f) (mul-le-mul (vbeta-most h d s b) (squared-readings-most h d s y r));
+      freedom-some = omega (arith, parameters h d s b .enough);
+    }
 
-  -- beta is the difference of the two lambdas
-  pub beta-is-less : (company h d 1 0 ≤ opposition h d 1 0) × (opposition h d 1 0 - company h d 1 0 ≡ beta h d)
-  beta-is-less = (parameters h d s b .less, omega (arith, parameters h d s b .beta-is))
+    -- is the job's own spread
+    spreading-is : spreadingFrom (vb * natAbs (squaredReadings h y) - squares) vb (freedom h) ≡ spreadingOf h d y
+    spreading-is = ap₂ (λ (Q v : ℕ). spreadingFrom Q v (freedom h)) (ap₂ (λ (v t : ℕ). v * natAbs (squaredReadings h y) - t) f g ∙ q-is .1) f ∙ spreading-of r
+
+-- ---- an accepted job, worked out
+
+-- an accepted job with its parameters, developed, its totals laid and squared
+pub record Developed (h : Head) (d : List ℕ) (y : List ℤ) (w : ℕ) (M : ℤ) (p : Parameters) (squares : ℕ) (before words : List ℕ) (room totals : List ℤ) : Type 0 where
+  pub stands : jobVerdict h d y w M ≡ accepted
+  pub parameters-are : p ≡ parametersOf h d
+  pub words-room : 2 * blocks h ≤ length before
+  pub words-are : words ≡ over (2 * blocks h) (wordAt h d) before
+  pub totals-room : objects h ≤ length room
+  pub totals-are : totals ≡ over (objects h) (total h d y) room
+  pub squares-are : squares ≡ natAbs (squaredTotals h d y)
+
+module _ {h : Head} {d : List ℕ} {y : List ℤ} {w : ℕ} {M : ℤ} {p : Parameters} {squares : ℕ} {before words : List ℕ} {room totals : List ℤ} (a : Developed h d y w M p squares before words room totals) where
+  its-job : Job h d y w M
+  its-job = job h d y w M (a .stands)
+
+  design : Sound h d
+  design = its-job .measures .design
+
+  lay : Laid h d y words
+  lay = laid h d y before words design (its-job .measures .readings) (a .words-room) (a .words-are)
+
+  -- its parameters are those of a balanced design
+  constants : Numbers h d
+  constants = parameters h d design (its-job .measures .even)
+
+  scale-is : scaleIn p ≡ vbeta h d
+  scale-is = ap scaleIn (a .parameters-are) ∙ ap (λ (b : ℕ). objects h * b) (omega (arith, constants .beta-is))
+
+  -- it can be worked out
+  pub workable : Workable h y w M p squares words totals
+  workable = record {
+    measured = measured h d design (its-job .measures .even) y (its-job .measures .readings) (job-totals h d y w M (a .stands)) (scaleIn p) squares scale-is (a .squares-are);
+    weighed = subst (λ (q : Parameters). Weighed words y (q .b)) (sym (a .parameters-are)) (lay .weighed);
+    totalled = subst (λ (q : Parameters). Totalled totals (q .v)) (sym (a .parameters-are)) (totalled h d y room totals (a .totals-room) (a .totals-are) design (its-job .measures .readings));
+    less = subst (λ (q : Parameters). q .l1 ≤ q .l2) (sym (a .parameters-are)) (constants .less);
+    scale-most = subst (λ (x : ℕ). x ≤ 2600) (sym scale-is) (vbeta-most h d design (its-job .measures .even));
+    set-inside = subst (λ (q : Parameters). w < 2 ^ q .v) (sym (a .parameters-are)) (its-job .restraint .set-inside);
+    sum-most = its-job .restraint .sum-most;
+  }
+
+  -- its record is the definition's
+  pub record-is : (verdict : Verdict) → verdict ≡ accepted → workedOut h y w p squares ≡ solvedUnder verdict h d y w
+  unfolding denominatorOf
+  record-is verdict e =
+      (λ j. record {
+        verdict = accepted;
+        parameters = a .parameters-are j;
+        denominator = denominator (members (a .parameters-are j .v) w) (scale-is j);
+        spreading = spreading-is h d design (its-job .measures .even) y (its-job .measures .readings) (job-totals h d y w M (a .stands)) (scaleIn p) squares scale-is (a .squares-are) j;
+      })
+      ∙ sym (ap (λ (v : Verdict). solvedUnder v h d y w) e)
+
+  -- so are its values
+  pub values-are : (values : List ℤ) → over (p .v) (numeratorIn totals (p .v) w (scaleIn p) M) values ≡ over (objects h) (numeratorOf h d y w M) values
+  values-are values =
+      (λ j. over (a .parameters-are j .v) (numeratorIn totals (a .parameters-are j .v) w (scale-is j) M) values)
+      ∙ over-ext (objects h) _ _ values (numerator-is h d y room totals (a .totals-room) (a .totals-are) w M)
+
+  -- and its deviations
+  pub deviations-are : (deviations : List ℤ) → over (p .b) (deviationIn words y totals (p .v) (scaleIn p)) deviations ≡ over (blocks h) (deviationOf h d y) deviations
+  deviations-are deviations =
+      (λ j. over (a .parameters-are j .b) (deviationIn words y totals (a .parameters-are j .v) (scale-is j)) deviations)
+      ∙ over-ext (blocks h) _ _ deviations (deviation-is h d y room totals (a .totals-room) (a .totals-are) words design lay)
 
 -- ---- rooms that are always long enough
 

@@ -1,15 +1,18 @@
 -- Sums over a room of totals: how a loop builds one, and how large it is. Assumes nothing.
-use mathlib.Core.Path.{_≡_}
+use mathlib.Core.Path.{_≡_, refl, sym, _∙_}
 use mathlib.Core.List.{List}
 use Prim.Native.Nat.{ℕ, _+_, _*_, _≤_}
 use native.Mathlib.Nat.{le-trans}
 use native.Mathlib.Omega.{arith}
 use lib.IntN.{ℤ, pos, natAbs, _+ℤ_, _*ℤ_}
-use Rattle.algebra.proofs.Sums.{sum-none, sum-more}
-use Rattle.algebra.proofs.Bounds.{abs-*-le, abs-sum}
+use lib.ListN.{getD}
+use Rattle.algebra.specs.Ranges.{sum}
+use Rattle.algebra.proofs.Sums.{sum-none, sum-more, sum-sub, sum-ext}
+use Rattle.algebra.proofs.Solver.{_⊗_, _⊝_, _≐_, ring₃}
+use Rattle.algebra.proofs.Bounds.{abs-*-le, abs-sub, abs-sum}
 use Rattle.meaning.specs.Analysis.{member, restrained}
 use Rattle.totals.specs.Developed.{signIn}
-use Rattle.totals.proofs.Developing.{sign-most}
+use Rattle.words.specs.Bits.{bit}
 use Rattle.analysis.specs.Worked.{totalAt, Totalled, fittedIn}
 
 module _ (totals : List ℤ) where
@@ -30,19 +33,18 @@ module _ (totals : List ℤ) where
       abs-sum i 260000000 (λ j. pos (member w j) *ℤ totalAt totals j)
       (λ j m. le-trans (abs-*-le (pos (member w j)) (totalAt totals j) 1 260000000 (omega arith) (t .most j (omega arith))) (omega arith))
 
-  -- over no object a block is fitted by 0
-  pub fitted-none : (words : List ℕ) (k : ℕ) → pos 0 ≡ fittedIn words totals 0 k
-  unfolding fittedIn
-  fitted-none words k = sum-none _
+  -- a block is fitted by the signs of its words
+  pub fitted-signs : (words : List ℕ) (v k : ℕ) → fittedIn words totals v k ≡ sum v (λ i. signIn words k i *ℤ totalAt totals i)
+  unfolding fittedIn restrained
+  fitted-signs words v k =
+      sym (sum-sub v _ _)
+      ∙ sum-ext v _ _ (λ i. ring₃ (λ l r t. l ⊗ t ⊝ r ⊗ t ≐ (l ⊝ r) ⊗ t) (pos (bit (getD words (2 * k) 0) i)) (pos (bit (getD words (2 * k + 1) 0) i)) (totalAt totals i) refl)
 
-  -- over one object more
-  pub fitted-more : (words : List ℕ) (i k : ℕ) → fittedIn words totals (i + 1) k ≡ fittedIn words totals i k +ℤ signIn words k i *ℤ totalAt totals i
+  -- each object adds at most a total to each side
+  pub fitted-small : (words : List ℕ) (v k : ℕ) → Totalled totals v → natAbs (fittedIn words totals v k) ≤ 26000000000
   unfolding fittedIn
-  fitted-more words i k = sum-more i _
-
-  -- each object adds at most a total
-  pub fitted-small : (words : List ℕ) (i v k : ℕ) → Totalled totals v → i ≤ v → natAbs (fittedIn words totals i k) ≤ i * 260000000
-  unfolding fittedIn
-  fitted-small words i v k t l =
-      abs-sum i 260000000 (λ j. signIn words k j *ℤ totalAt totals j)
-      (λ j m. le-trans (abs-*-le (signIn words k j) (totalAt totals j) 1 260000000 (sign-most words k j) (t .most j (omega arith))) (omega arith))
+  fitted-small words v k t =
+      let l = getD words (2 * k) 0 in
+      let r = getD words (2 * k + 1) 0 in
+      le-trans (abs-sub (restrained v l (totalAt totals)) (restrained v r (totalAt totals)))
+      (omega (arith, t .few, set-small v v l t (omega arith), set-small v v r t (omega arith)))

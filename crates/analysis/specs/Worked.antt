@@ -1,17 +1,20 @@
 -- Values and deviations as they are worked out from a room of totals and from words, and the record of a job. Assumes nothing.
-use Prim.Native.Nat.{ℕ, _≤_, _<_}
+use Prim.Native.Nat.{ℕ, _+_, _-_, _*_, _^_, _≤_, _<_}
+use mathlib.Core.Path.{_≡_}
 use mathlib.Core.List.{List}
 use lib.ListN.{getD, length}
 use lib.IntN.{ℤ, pos, _-ℤ_, _*ℤ_, natAbs}
-use Rattle.algebra.specs.Ranges.{sum}
 use Rattle.meaning.specs.declared.Head.{Head}
 use Rattle.meaning.specs.declared.Verdict.{Verdict}
+use Rattle.meaning.specs.declared.Parameters.{Parameters}
 use Rattle.meaning.specs.declared.Solved.{Solved}
-use Rattle.meaning.specs.Design.{parametersOf}
-use Rattle.meaning.specs.Analysis.{reading, members, restrained, numerator, denominatorOf}
+use Rattle.meaning.specs.Design.{objects, blocks}
+use Rattle.meaning.specs.Analysis.{reading, members, restrained, numerator, denominator, squaredReadings, freedom}
 use Rattle.meaning.specs.Refusals.{accepted}
-use Rattle.meaning.specs.Calls.{noParameters, spreadingOf, noSpreading}
-use Rattle.totals.specs.Developed.{signIn}
+use Rattle.meaning.specs.Calls.{squaredReadingsVerdict, noParameters, noSpreading}
+use Rattle.laws.specs.Fits.{Fits}
+use Rattle.spread.specs.Hundredths.{spreadingFrom}
+use Rattle.totals.specs.Developed.{Weighed}
 
 -- the total that stands at place i
 abbrev pub totalAt : List ℤ → ℕ → ℤ
@@ -23,21 +26,48 @@ pub record Totalled (totals : List ℤ) (v : ℕ) : Type 0 where
   pub long : v ≤ length totals
   pub most : (i : ℕ) → i < v → natAbs (totalAt totals i) ≤ 260000000
 
+-- the readings of a job, v·beta and the sum of its squared totals: Q is not below 0, nor is f
+pub record Measured (h : Head) (y : List ℤ) (vb squares : ℕ) : Type 0 where
+  pub sizes : Fits h
+  pub squared : squaredReadingsVerdict h y ≡ accepted
+  pub q-some : squares ≤ vb * natAbs (squaredReadings h y)
+  pub q-most : vb * natAbs (squaredReadings h y) ≤ 135200000000000000
+  pub freedom-some : objects h ≤ blocks h + 1
+
 -- the numerator of object i
 abbrev pub numeratorIn : List ℤ → ℕ → ℕ → ℕ → ℤ → ℕ → ℤ
 numeratorIn totals v w vb M i = numerator (members v w) (totalAt totals i) (restrained v w (totalAt totals)) vb M
 
 -- the totals over the left word of block k minus those over the right one
 unfoldable pub fittedIn : List ℕ → List ℤ → ℕ → ℕ → ℤ
-fittedIn words totals v k = sum v (λ i. signIn words k i *ℤ totalAt totals i)
+fittedIn words totals v k = restrained v (getD words (2 * k) 0) (totalAt totals) -ℤ restrained v (getD words (2 * k + 1) 0) (totalAt totals)
 
 -- the deviation numerator of block k
 abbrev pub deviationIn : List ℕ → List ℤ → List ℤ → ℕ → ℕ → ℕ → ℤ
 deviationIn words y totals v vb k = pos vb *ℤ reading y k -ℤ fittedIn words totals v k
 
--- the record of an accepted job
-abbrev pub solution : Head → List ℕ → List ℤ → ℕ → Solved
-solution h d y w = record { verdict = accepted; parameters = parametersOf h d; denominator = denominatorOf h d w; spreading = spreadingOf h d y }
+-- v·beta, from the parameters of a design
+abbrev pub scaleIn : Parameters → ℕ
+scaleIn p = p .v * (p .l2 - p .l1)
+
+-- a job with its parameters, the sum of its squared totals, its words and its totals, all in their ranges
+pub record Workable (h : Head) (y : List ℤ) (w : ℕ) (M : ℤ) (p : Parameters) (squares : ℕ) (words : List ℕ) (totals : List ℤ) : Type 0 where
+  pub measured : Measured h y (scaleIn p) squares
+  pub weighed : Weighed words y (p .b)
+  pub totalled : Totalled totals (p .v)
+  pub less : p .l1 ≤ p .l2
+  pub scale-most : scaleIn p ≤ 2600
+  pub set-inside : w < 2 ^ p .v
+  pub sum-most : natAbs M ≤ 1000000000
+
+-- its record
+abbrev pub workedOut : Head → List ℤ → ℕ → Parameters → ℕ → Solved
+workedOut h y w p squares = record {
+  verdict = accepted;
+  parameters = p;
+  denominator = denominator (members (p .v) w) (scaleIn p);
+  spreading = spreadingFrom (scaleIn p * natAbs (squaredReadings h y) - squares) (scaleIn p) (freedom h);
+}
 
 -- that of a refusal
 abbrev pub noSolution : Verdict → Solved

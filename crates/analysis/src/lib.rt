@@ -6,23 +6,20 @@ use meaning::Spread;
 use meaning::Spreading;
 use meaning::Verdict;
 use readings::sum_of_squares;
-use refusals::judged_job;
+use refusals::judged_with_rooms;
 use spread::spread_from;
 use totals::all_totals;
 use words::ones;
 ghost use mathlib.Core.Path.{_≡_};
-ghost use mathlib.Core.Bool.{true};
-ghost use Prim.Native.Nat.{ℕ, _+_, _*_, _^_, _<_, _≤_};
-ghost use lib.IntN.{pos, natAbs};
+ghost use Prim.Native.Nat.{_+_, _-_, _*_, _<_, _≤_};
+ghost use lib.IntN.{natAbs};
 ghost use lib.ListN.{length};
 ghost use Rattle.algebra.specs.Buffers.{over};
+ghost use Rattle.spread.specs.Hundredths.{spreadingFrom};
 ghost use Rattle.totals.specs.Developed.{Weighed};
-ghost use Rattle.laws.specs.Fits.{Fits};
-ghost use Rattle.meaning.specs.Design.{objects, balanced, parametersOf};
-ghost use Rattle.meaning.specs.Analysis.{total, restrained, vbeta, numeratorOf, denominatorOf, deviationOf};
-ghost use Rattle.meaning.specs.Refusals.{accepted, refused};
-ghost use Rattle.meaning.specs.Calls.{wordAt, squaredTotalsVerdict, jobVerdict, spreadingOf, rooms, analyseVerdict, solvedUnder, wordsUnder, valuesUnder, deviationsUnder};
-ghost use Rattle.analysis.specs.Worked.{Totalled, totalAt, fittedIn, numeratorIn, deviationIn, solution, noSolution};
+ghost use Rattle.meaning.specs.Analysis.{members, restrained, squaredReadings, freedom};
+ghost use Rattle.meaning.specs.Calls.{analyseVerdict, solvedUnder, wordsUnder, valuesUnder, deviationsUnder};
+ghost use Rattle.analysis.specs.Worked.{Totalled, Measured, Workable, totalAt, fittedIn, scaleIn, numeratorIn, deviationIn, workedOut, noSolution};
 
 // Everything at once: words, values and deviations into lent rooms, the design judged once. All rooms are looked at before the first is written.
 pub fn analyse(
@@ -40,36 +37,40 @@ pub fn analyse(
     ensures { λ r. ⌜ now (values .exit) ≡ valuesUnder (analyseVerdict head (now (blocks .entry)) (now (readings .entry)) set sum (length (now (words .entry))) (length (now (values .entry))) (length (now (deviations .entry)))) head (now (blocks .entry)) (now (readings .entry)) set sum (now (values .entry)) ⌝ }
     ensures { λ r. ⌜ now (deviations .exit) ≡ deviationsUnder (analyseVerdict head (now (blocks .entry)) (now (readings .entry)) set sum (length (now (words .entry))) (length (now (values .entry))) (length (now (deviations .entry)))) head (now (blocks .entry)) (now (readings .entry)) (now (deviations .entry)) ⌝ }
 {
-    let judged = judged_job(head, blocks, readings, set, sum);
-    let verdict = judged.verdict;
-    if let Verdict::Refused(number, at) = verdict {
-        return no_solution(number, at);
-    }
-    if let Verdict::Refused(number, at) = rooms_refusal(
-        head,
-        words.len(),
-        values.len(),
-        deviations.len(),
-    ) {
-        return no_solution(number, at);
-    }
-    let parameters = judged.parameters;
-    work(
+    let judged = judged_with_rooms(
         head,
         blocks,
         readings,
         set,
         sum,
+        words.len(),
+        values.len(),
+        deviations.len(),
+    );
+    let verdict = judged.verdict;
+    if let Verdict::Refused(_, _) = verdict {
+        return no_solution(verdict);
+    }
+    let parameters = judged.parameters;
+    let mut totals = [0i64; 50];
+    let squared_totals = all_totals(head, blocks, readings, words, &mut totals);
+    work(
+        head,
+        readings,
+        set,
+        sum,
         parameters,
+        squared_totals.sum,
         words,
+        &totals,
         values,
         deviations,
     )
 }
 
 // What a refused job hands back.
-fn no_solution(number: u8, at: usize) -> Solved
-    ensures { λ r. ⌜ r ≡ noSolution (refused number at) ⌝ }
+fn no_solution(verdict: Verdict) -> Solved
+    ensures { λ r. ⌜ r ≡ noSolution verdict ⌝ }
 {
     let parameters = Parameters {
         v: 0,
@@ -87,60 +88,40 @@ fn no_solution(number: u8, at: usize) -> Solved
         spread: Spread::None,
     };
     Solved {
-        verdict: Verdict::Refused(number, at),
+        verdict,
         parameters,
         denominator: 0,
         spreading,
     }
 }
 
-// Room for the words, then for the values, then for the deviations.
-fn rooms_refusal(head: Head, words: usize, values: usize, deviations: usize) -> Verdict
-    requires { ⌜ Fits head ⌝ }
-    ensures { λ r. ⌜ r ≡ rooms head words values deviations ⌝ }
-{
-    let v = head.n + head.flag;
-    let b = head.m * head.n;
-    if words < 2 * b {
-        return Verdict::Refused(10, 0);
-    }
-    if values < v {
-        return Verdict::Refused(10, 0);
-    }
-    if deviations < b {
-        return Verdict::Refused(10, 0);
-    }
-    Verdict::Accepted
-}
-
-// Works an accepted job out, into rooms that are long enough.
+// Works a job out from its words and totals, into rooms that are long enough; `squares` is the sum of the squared totals.
 fn work(
     head: Head,
-    blocks: &[u8],
     readings: &[i32],
     set: u64,
     sum: i64,
     parameters: Parameters,
-    words: &mut [u64],
+    squares: u64,
+    words: &[u64],
+    totals: &[i64],
     values: &mut [i64],
     deviations: &mut [i64],
 ) -> Solved
-    requires { ⌜ jobVerdict head (now blocks) (now readings) set sum ≡ accepted ⌝ }
-    requires { ⌜ parameters ≡ parametersOf head (now blocks) ⌝ }
-    requires { ⌜ (2 * (head .m * head .n) ≤ length (now words)) × (objects head ≤ length (now values)) × (head .m * head .n ≤ length (now deviations)) ⌝ }
-    ensures { λ r. ⌜ r ≡ solution head (now (blocks .entry)) (now (readings .entry)) set ⌝ }
-    ensures { λ r. ⌜ now (words .exit) ≡ over (2 * (head .m * head .n)) (wordAt head (now (blocks .entry))) (now (words .entry)) ⌝ }
-    ensures { λ r. ⌜ now (values .exit) ≡ over (objects head) (numeratorOf head (now (blocks .entry)) (now (readings .entry)) set sum) (now (values .entry)) ⌝ }
-    ensures { λ r. ⌜ now (deviations .exit) ≡ over (head .m * head .n) (deviationOf head (now (blocks .entry)) (now (readings .entry))) (now (deviations .entry)) ⌝ }
+    requires { ⌜ Workable head (now readings) set sum parameters squares (now words) (now totals) ⌝ }
+    requires { ⌜ (parameters .v ≤ length (now values)) × (parameters .b ≤ length (now deviations)) ⌝ }
+    ensures { λ r. ⌜ r ≡ workedOut head (now (readings .entry)) set parameters squares ⌝ }
+    ensures { λ r. ⌜ now (values .exit) ≡ over (parameters .v) (numeratorIn (now (totals .entry)) (parameters .v) set (scaleIn parameters) sum) (now (values .entry)) ⌝ }
+    ensures { λ r. ⌜ now (deviations .exit) ≡ over (parameters .b) (deviationIn (now (words .entry)) (now (readings .entry)) (now (totals .entry)) (parameters .v) (scaleIn parameters)) (now (deviations .entry)) ⌝ }
 {
-    let v = head.n + head.flag;
-    let b = head.m * head.n;
-    let vbeta = v as u64 * (parameters.l2 - parameters.l1);
-    let mut totals = [0i64; 50];
-    let spreading = measure(head, blocks, readings, vbeta, words, &mut totals);
-    fill_values(&totals, v, set, vbeta, sum, values);
-    fill_deviations(words, readings, &totals, b, v, vbeta, deviations);
-    let denominator = ones(set) * vbeta;
+    let v = parameters.v as usize;
+    let b = parameters.b as usize;
+    let vbeta = parameters.v * (parameters.l2 - parameters.l1);
+    let t = ones(set);
+    fill_values(totals, v, set, t, vbeta, sum, values);
+    fill_deviations(words, readings, totals, b, v, vbeta, deviations);
+    let spreading = measure(head, readings, vbeta, squares);
+    let denominator = t * vbeta;
     Solved {
         verdict: Verdict::Accepted,
         parameters,
@@ -149,30 +130,18 @@ fn work(
     }
 }
 
-// Develops the design, lays its totals, and hands back the spread.
-fn measure(
-    head: Head,
-    blocks: &[u8],
-    readings: &[i32],
-    scale: u64,
-    words: &mut [u64],
-    totals: &mut [i64],
-) -> Spreading
-    requires { ⌜ squaredTotalsVerdict head (now blocks) (now readings) ≡ accepted ⌝ }
-    requires { ⌜ (balanced head (now blocks) ≡ true) × (scale ≡ vbeta head (now blocks)) ⌝ }
-    requires { ⌜ (2 * (head .m * head .n) ≤ length (now words)) × (objects head ≤ length (now totals)) ⌝ }
-    ensures { λ r. ⌜ r ≡ spreadingOf head (now (blocks .entry)) (now (readings .entry)) ⌝ }
-    ensures { λ r. ⌜ now (words .exit) ≡ over (2 * (head .m * head .n)) (wordAt head (now (blocks .entry))) (now (words .entry)) ⌝ }
-    ensures { λ r. ⌜ now (totals .exit) ≡ over (objects head) (total head (now (blocks .entry)) (now (readings .entry))) (now (totals .entry)) ⌝ }
+// The spread, from v·beta and the sum of the squared totals.
+fn measure(head: Head, readings: &[i32], vbeta: u64, squares: u64) -> Spreading
+    requires { ⌜ Measured head (now readings) vbeta squares ⌝ }
+    ensures { λ r. ⌜ r ≡ spreadingFrom (vbeta * natAbs (squaredReadings head (now (readings .entry))) - squares) vbeta (freedom head) ⌝ }
 {
-    let squared_totals = all_totals(head, blocks, readings, words, totals);
     let squared_readings = sum_of_squares(head, readings);
-    let q = scale * squared_readings.sum - squared_totals.sum;
+    let q = vbeta * squared_readings.sum - squares;
     let freedom = head.m * head.n + 1 - (head.n + head.flag);
-    spread_from(q, scale, freedom as u64)
+    spread_from(q, vbeta, freedom as u64)
 }
 
-// S, the sum of the totals over the restraint set.
+// The totals over the objects of a set, added; over the restraint set it is S.
 fn set_sum(totals: &[i64], v: usize, set: u64) -> i64
     requires { ⌜ Totalled (now totals) v ⌝ }
     ensures { λ r. ⌜ r ≡ restrained v set (totalAt (now (totals .entry))) ⌝ }
@@ -188,13 +157,13 @@ fn set_sum(totals: &[i64], v: usize, set: u64) -> i64
     sum
 }
 
-// Lays the numerator of every object into `values`.
-fn fill_values(totals: &[i64], v: usize, set: u64, vbeta: u64, sum: i64, values: &mut [i64])
+// Lays the numerator of every object into `values`; t is how many objects the restraint set has.
+fn fill_values(totals: &[i64], v: usize, set: u64, t: u64, vbeta: u64, sum: i64, values: &mut [i64])
     requires { ⌜ Totalled (now totals) v ⌝ }
-    requires { ⌜ (v ≤ length (now values)) × (set < 2 ^ v) × (vbeta ≤ 2600) × (natAbs sum ≤ 1000000000) ⌝ }
+    requires { ⌜ (v ≤ length (now values)) × (t ≡ members v set) × (t ≤ 50) × (vbeta ≤ 2600) × (natAbs sum ≤ 1000000000) ⌝ }
     ensures { λ r. ⌜ now (values .exit) ≡ over v (numeratorIn (now (totals .entry)) v set vbeta sum) (now (values .entry)) ⌝ }
 {
-    let members = ones(set) as i64;
+    let members = t as i64;
     let over_set = set_sum(totals, v, set);
     let lifted = vbeta as i64 * sum;
     let mut i = 0;
@@ -213,16 +182,9 @@ fn fitted(words: &[u64], totals: &[i64], v: usize, k: usize) -> i64
 {
     let left_word = words[2 * k];
     let right_word = words[2 * k + 1];
-    let mut sum: i64 = 0;
-    let mut i = 0;
-    while i < v {
-        let left = (left_word >> i) % 2;
-        let right = (right_word >> i) % 2;
-        let total = totals[i];
-        sum += (left as i64 - right as i64) * total;
-        i += 1;
-    }
-    sum
+    let left = set_sum(totals, v, left_word);
+    let right = set_sum(totals, v, right_word);
+    left - right
 }
 
 // Lays the deviation numerator of every block into `deviations`.

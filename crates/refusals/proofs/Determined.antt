@@ -10,6 +10,9 @@ use Rattle.refusals.proofs.refusal.Reads as refusalCallReads
 use Rattle.refusals.proofs.judged_job as judgedJobCall
 use Rattle.refusals.proofs.judged_job.Kinds as judgedJobCallKinds
 use Rattle.refusals.proofs.judged_job.Reads as judgedJobCallReads
+use Rattle.refusals.proofs.judged_with_rooms as judgedWithRoomsCall
+use Rattle.refusals.proofs.judged_with_rooms.Kinds as judgedWithRoomsCallKinds
+use Rattle.refusals.proofs.judged_with_rooms.Reads as judgedWithRoomsCallReads
 
 -- the same verdict
 module _ (κs : Lfts 2) (a : ArgsD refusalCall.signature κs) (r q : ResD refusalCall.signature κs) (s t : AtExit (endedOf 2 refusalCallKinds.ps refusalCallKinds.r) κs) where
@@ -20,3 +23,8 @@ module _ (κs : Lfts 2) (a : ArgsD refusalCall.signature κs) (r q : ResD refusa
 module _ (κs : Lfts 2) (a : ArgsD judgedJobCall.signature κs) (r q : ResD judgedJobCall.signature κs) (s t : AtExit (endedOf 2 judgedJobCallKinds.ps judgedJobCallKinds.r) κs) where
   pub judged-job-determined : judgedJobCallReads.Post κs a r s → judgedJobCallReads.Post κs a q t → r ≡ q
   judged-job-determined p e = p ∙ sym e
+
+-- the same judgement
+module _ (κs : Lfts 2) (a : ArgsD judgedWithRoomsCall.signature κs) (r q : ResD judgedWithRoomsCall.signature κs) (s t : AtExit (endedOf 2 judgedWithRoomsCallKinds.ps judgedWithRoomsCallKinds.r) κs) where
+  pub judged-with-rooms-determined : judgedWithRoomsCallReads.Post κs a r s → judgedWithRoomsCallReads.Post κs a q t → r ≡ q
+  judged-with-rooms-determined p e = p ∙ sym e

@@ -9,7 +9,7 @@ use readings::slices_refusal;
 ghost use mathlib.Core.Path.{_≡_};
 ghost use Rattle.laws.specs.Fits.{Fits};
 ghost use Rattle.meaning.specs.Refusals.{refused, restraint};
-ghost use Rattle.meaning.specs.Calls.{jobVerdict};
+ghost use Rattle.meaning.specs.Calls.{jobVerdict, rooms, analyseVerdict};
 ghost use Rattle.refusals.specs.Judgement.{judgedUnder, noJudgement};
 
 // Why a whole job is refused, or that it is accepted: 4 to 8, with no room.
@@ -39,6 +39,49 @@ pub fn judged_job(head: Head, blocks: &[u8], readings: &[i32], set: u64, sum: i6
         return no_judgement(number, at);
     }
     judged
+}
+
+// The same with the rooms for the words, the values and the deviations, of the lengths given: they are looked at after everything else.
+pub fn judged_with_rooms(
+    head: Head,
+    blocks: &[u8],
+    readings: &[i32],
+    set: u64,
+    sum: i64,
+    words: usize,
+    values: usize,
+    deviations: usize,
+) -> Judged
+    ensures { λ r. ⌜ r ≡ judgedUnder (analyseVerdict head (now (blocks .entry)) (now (readings .entry)) set sum words values deviations) head (now (blocks .entry)) ⌝ }
+{
+    let judged = judged_job(head, blocks, readings, set, sum);
+    let verdict = judged.verdict;
+    if let Verdict::Refused(number, place) = verdict {
+        return no_judgement(number, place);
+    }
+    if let Verdict::Refused(number, at) = rooms_refusal(head, words, values, deviations) {
+        return no_judgement(number, at);
+    }
+    judged
+}
+
+// Room for the words, then for the values, then for the deviations.
+fn rooms_refusal(head: Head, words: usize, values: usize, deviations: usize) -> Verdict
+    requires { ⌜ Fits head ⌝ }
+    ensures { λ r. ⌜ r ≡ rooms head words values deviations ⌝ }
+{
+    let v = head.n + head.flag;
+    let b = head.m * head.n;
+    if words < 2 * b {
+        return Verdict::Refused(10, 0);
+    }
+    if values < v {
+        return Verdict::Refused(10, 0);
+    }
+    if deviations < b {
+        return Verdict::Refused(10, 0);
+    }
+    Verdict::Accepted
 }
 
 // The restraint set is not empty and has no bit at v or above, and the sum is in its range.

@@ -1,23 +1,25 @@
 -- `analyse`: each way out is its verdict, by the tests that led there; what was worked out stands under it. Assumes nothing.
 use borrow.Author.Needs.{needs}
-use mathlib.Core.Path.{_≡_, sym, ap, _∙_}
-use mathlib.Core.List.{List}
-use Prim.Native.Nat.{ℕ}
+use mathlib.Core.Path.{_≡_, sym, ap, _∙_, subst}
+use mathlib.Core.List.{List, replicate}
+use Prim.Native.Nat.{ℕ, _≤_}
 use denote.Ref.{now}
-use lib.IntN.{ℤ}
+use lib.IntN.{ℤ, pos, natAbs}
 use lib.ListN.{length}
 use mir.Facts.{toZ-ofZ}
 use Rattle.meaning.specs.declared.Head.{Head}
 use Rattle.meaning.specs.declared.Verdict.{Verdict}
+use Rattle.meaning.specs.declared.Parameters.{Parameters}
 use Rattle.meaning.specs.declared.Judged.{Judged}
-use Rattle.meaning.specs.declared.Solved.{Solved}
-use Rattle.meaning.specs.Design.{blocks, parametersOf}
-use Rattle.meaning.specs.Refusals.{accepted, refused}
-use Rattle.meaning.specs.Calls.{noParameters, jobVerdict, rooms, analyseVerdict, solvedUnder, wordsUnder, valuesUnder, deviationsUnder}
-use Rattle.laws.proofs.Chains.{job, given-yes, given-no}
+use Rattle.meaning.specs.declared.SquareSum.{SquareSum}
+use Rattle.meaning.specs.Design.{parametersOf}
+use Rattle.meaning.specs.Analysis.{squaredTotals}
+use Rattle.meaning.specs.Refusals.{accepted}
+use Rattle.meaning.specs.Calls.{noParameters, analyseVerdict}
+use Rattle.laws.proofs.Chains.{given-yes, given-no, job}
+use Rattle.totals.proofs.Refusing.{totals-roomy}
 use Rattle.refusals.specs.Judgement.{judgedUnder}
-use Rattle.analysis.specs.Worked.{noSolution}
-use Rattle.analysis.proofs.Accepting.{analyse-refused, analyse-rooms, enough, no-solution-is, solved-is}
+use Rattle.analysis.proofs.Accepting.{job-totals, analysed, Developed, workable, record-is, values-are, deviations-are, no-solution-is}
 use Rattle.analysis.proofs.analyse.Statement.{statement}
 use Rattle.analysis.proofs.analyse.Tie as tie
 
@@ -32,62 +34,87 @@ module _ (s : tie.Start) where
   abbrev ys : List ℤ
   ys = now (s .args .readings)
 
-  abbrev tests : Verdict
-  tests = jobVerdict head bytes ys (s .args .set) (s .args .sum)
-
   abbrev verdict : Verdict
   verdict = analyseVerdict head bytes ys (s .args .set) (s .args .sum) (length (now (s .args .words))) (length (now (s .args .values))) (length (now (s .args .deviations)))
 
-  -- where it refuses all stays as it was
-  refuses : (r : Solved) (k at : ℕ) → r ≡ noSolution (refused k at) → verdict ≡ refused k at →
-      (r ≡ solvedUnder verdict head bytes ys (s .args .set))
-      × ((now (s .args .words) ≡ wordsUnder verdict head bytes (now (s .args .words)))
-      × ((now (s .args .values) ≡ valuesUnder verdict head bytes ys (s .args .set) (s .args .sum) (now (s .args .values)))
-      × (now (s .args .deviations) ≡ deviationsUnder verdict head bytes ys (now (s .args .deviations)))))
-  refuses r k at p e = (
-    p ∙ no-solution-is verdict head bytes ys (s .args .set) k at e,
-    (sym (given-no verdict _ _ k at e), (sym (given-no verdict _ _ k at e), sym (given-no verdict _ _ k at e))),
-  )
-
 -- what the judgement says
-module _ (c : tie.After-judged-job) where
-  judgement : c .judged-job .result ≡ judgedUnder (tests (c .before .before .before)) (head (c .before .before .before)) (bytes (c .before .before .before))
-  judgement = rw (toZ-ofZ (c .before .before .before .fits .sum)) at (c .judged-job .ensures)
+module _ (c : tie.After-judged-with-rooms) where
+  abbrev start : tie.Start
+  start = c .before .before .before
 
-  judged-verdict : c .judged-job .result .verdict ≡ tests (c .before .before .before)
+  judgement : c .judged-with-rooms .result ≡ judgedUnder (verdict start) (head start) (bytes start)
+  judgement = rw (toZ-ofZ (start .fits .sum)) at (c .judged-with-rooms .ensures)
+
+  judged-verdict : c .judged-with-rooms .result .verdict ≡ verdict start
   judged-verdict = ap (λ (r : Judged). r .verdict) judgement
 
 -- past the tests
-passed : (c : tie.After-enum-told) → tests (c .before .before .before .before .before) ≡ accepted
-passed c = sym (judged-verdict (c .before .before)) ∙ c .enum-told .given .1
+passed : (c : tie.After-enum-told2) → verdict (start (c .before .before)) ≡ accepted
+passed c = sym (judged-verdict (c .before .before)) ∙ c .enum-told2 .given .1
 
--- past the rooms
-spacious : (c : tie.After-enum-told2) → rooms (head (c .before .before .before .before .before .before .before .before)) (length (now (c .before .before .before .before .before .before .before .before .args .words))) (length (now (c .before .before .before .before .before .before .before .before .args .values))) (length (now (c .before .before .before .before .before .before .before .before .args .deviations))) ≡ accepted
-spacious c = sym (c .before .before .rooms-refusal .ensures) ∙ c .enum-told2 .given .1
-
+-- where it refuses all stays as it was
 returns : tie.Need-returns
-returns c = refuses (c .before .before .before .before .before .before .before) _ _ _ (c .no-solution .ensures)
-    (analyse-refused _ _ _ _ _ _ _ _ _ _ (sym (judged-verdict (c .before .before .before .before)) ∙ c .before .before .verdict .given .1))
+returns c =
+    let t = c .before in
+    let j = t .before .before in
+    let s = start j in
+    let e = sym (judged-verdict j) ∙ t .enum-told .given .1 in (
+      c .no-solution .ensures ∙ no-solution-is _ (verdict s) (head s) (bytes s) (ys s) (s .args .set) _ _ (judged-verdict j) e,
+      (sym (given-no (verdict s) _ _ _ _ e), (sym (given-no (verdict s) _ _ _ _ e), sym (given-no (verdict s) _ _ _ _ e))),
+    )
 
-returns-2 : tie.Need-returns-2
-returns-2 c = refuses (c .before .before .before .before .before .before .before .before .before .before) _ _ _ (c .no-solution2 .ensures)
-    (analyse-rooms _ _ _ _ _ _ _ _ (passed (c .before .before .before .before .before)) ∙ sym (c .before .before .before .before .rooms-refusal .ensures) ∙ c .before .before .number .given .1)
+-- once the totals are laid
+module _ (c : tie.After-all-totals) where
+  abbrev told : tie.After-enum-told2
+  told = c .before .before .before .before
+
+  abbrev judged : tie.After-judged-with-rooms
+  judged = told .before .before
+
+  abbrev s : tie.Start
+  s = start judged
+
+  abbrev words : List ℕ
+  words = c .all-totals .last .1 .1 .1 .0
+
+  abbrev totals : List ℤ
+  totals = c .all-totals .last .1 .1 .1 .1 .0
+
+  developed : Developed (head s) (bytes s) (ys s) (s .args .set) (s .args .sum) (judged .judged-with-rooms .result .parameters) (c .all-totals .result .sum) (now (s .args .words)) words (replicate 50 (pos 0)) totals
+  developed =
+      let (stands, (words-room, values-room, deviations-room)) = analysed (head s) (bytes s) (ys s) (s .args .set) (s .args .sum) _ _ _ (passed told) in
+      let sizes = job _ _ _ _ _ stands .measures .design .sizes in
+      let roomy = totals-roomy (head s) (bytes s) (ys s) (length (now (s .args .words))) 50 (job-totals _ _ _ _ _ stands) words-room (sizes .objects-most) in
+      record {
+        stands = stands;
+        parameters-are = ap (λ (r : Judged). r .parameters) (judgement judged) ∙ given-yes (verdict s) (parametersOf (head s) (bytes s)) noParameters (passed told);
+        words-room = words-room;
+        words-are = c .all-totals .ensures .1 .0 ∙ given-yes _ _ _ roomy;
+        totals-room = sizes .objects-most;
+        totals-are = c .all-totals .ensures .1 .1 ∙ given-yes _ _ _ roomy;
+        squares-are = ap (λ (r : SquareSum). r .sum) (c .all-totals .ensures .0) ∙ given-yes _ (natAbs (squaredTotals (head s) (bytes s) (ys s))) 0 roomy;
+      }
 
 work-requires : tie.Need-work-requires
 work-requires c κs =
-    let s = c .before .before .before .before .before .before .before .before .before .before .before .before in
-    let e = passed (c .before .before .before .before .before .before .before) in
-    let parameters = ap (λ (r : Judged). r .parameters) (judgement (c .before .before .before .before .before .before .before .before .before)) ∙ given-yes (tests s) (parametersOf (head s) (bytes s)) noParameters e in
-    (rw (toZ-ofZ (s .fits .sum)) e, (parameters, enough _ _ _ _ (spacious (c .before .before .before .before))))
+    let a = c .before .before .before .before .before .before .before in
+    let rooms = analysed (head (s a)) (bytes (s a)) (ys (s a)) (s a .args .set) (s a .args .sum) _ _ _ (passed (told a)) .1 in
+    (rw (toZ-ofZ (s a .fits .sum)) (workable (developed a)), subst (λ (p : Parameters). (p .v ≤ length (now (s a .args .values))) × (p .b ≤ length (now (s a .args .deviations)))) (sym (developed a .parameters-are)) (rooms .1, rooms .2))
 
-returns-3 : tie.Need-returns-3
-returns-3 c =
-    let s = c .before .before .before .before .before .before .before .before .before .before .before .before .before .before .before .before .before in
-    let w = c .before .before .before .before .work .ensures in
-    let e : verdict s ≡ accepted = analyse-rooms (head s) (bytes s) (ys s) (s .args .set) (s .args .sum) _ _ _ (passed (c .before .before .before .before .before .before .before .before .before .before .before .before)) ∙ spacious (c .before .before .before .before .before .before .before .before .before) in
-    let values = rw (toZ-ofZ (s .fits .sum)) at (w .1 .1 .0) in (
-      w .0 ∙ solved-is (verdict s) (head s) (bytes s) (ys s) (s .args .set) e,
-      (w .1 .0 ∙ sym (given-yes (verdict s) _ _ e), (values ∙ sym (given-yes (verdict s) _ _ e), w .1 .1 .1 ∙ sym (given-yes (verdict s) _ _ e))),
+returns-2 : tie.Need-returns-2
+returns-2 c =
+    let a = c .before .before .before .before .before .before .before .before .before .before in
+    let d = developed a in
+    let e = passed (told a) in
+    let w = c .before .before .work .ensures in (
+      w .0 ∙ record-is d (verdict (s a)) e,
+      (
+        d .words-are ∙ sym (given-yes (verdict (s a)) _ _ e),
+        (
+          rw (toZ-ofZ (s a .fits .sum)) at (w .1 .0) ∙ values-are d _ ∙ sym (given-yes (verdict (s a)) _ _ e),
+          w .1 .1 ∙ deviations-are d _ ∙ sym (given-yes (verdict (s a)) _ _ e),
+        ),
+      ),
     )
 
 pub analyse-spec : {M : Type 1} → statement M
@@ -99,13 +126,11 @@ analyse-spec =
     (λ c κs. search needs)
     returns
     (λ c. search needs)
-    (λ c κs. job _ _ _ _ _ (passed c) .measures .design .sizes)
     (λ c. search needs)
     (λ c κs. search needs)
-    returns-2
     (λ c. search needs)
     work-requires
     (λ c. search needs)
     (λ c. search needs)
     (λ c. search needs)
-    returns-3)
+    returns-2)

@@ -1,7 +1,6 @@
 -- `fill_deviations`: the first k entries are deviation numerators, and the later ones are as they were. Assumes nothing.
 use mathlib.Core.Path.{_≡_, refl}
 use Prim.Native.Nat.{ℕ, _-_, _≤_, _<_}
-use native.Mathlib.Nat.{le-trans}
 use native.Mathlib.Omega.{arith}
 use denote.Ref.{now}
 use lib.Dec.{lit<}
@@ -51,8 +50,7 @@ module _ (c : tie.After-y Inv-loop μ-loop) where
 -- and what it computes
 module _ (c : tie.After-fitted Inv-loop μ-loop) where
   abbrev fit : Num
-  fit = called (c .fitted .result) 13000000000 (c .fitted .ensures)
-      (le-trans (fitted-small _ _ _ (start (c .before) .args .v) _ (start (c .before) .pre .1 .0) (omega arith)) (omega (arith, start (c .before) .pre .1 .0 .few))) (lit< tt)
+  fit = called (c .fitted .result) 26000000000 (c .fitted .ensures) (fitted-small _ _ _ _ (start (c .before) .pre .1 .0)) (lit< tt)
 
   abbrev all : Num
   all = minus (product (c .before)) fit (lit< tt)

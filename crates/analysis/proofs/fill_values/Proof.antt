@@ -1,5 +1,4 @@
 -- `fill_values`: the first i entries are numerators, and the later ones are as they were. Assumes nothing.
-use borrow.Author.Needs.{needs}
 use mathlib.Core.Path.{_≡_, refl, ap, _∙_}
 use Prim.Native.Nat.{ℕ, _-_, _≤_, _<_}
 use native.Mathlib.Nat.{le-trans}
@@ -15,48 +14,38 @@ use Rattle.algebra.specs.Buffers.{over}
 use Rattle.algebra.proofs.Filling.{over-none, over-step, over-end}
 use Rattle.algebra.proofs.Numbers.{Num, called, number, param, unsigned, small-fits, minus, minus-fits, times, times-fits, plus, plus-fits}
 use Rattle.meaning.specs.Analysis.{members}
-use Rattle.laws.proofs.Solution.{members-most}
-use Rattle.words.proofs.Sides.{ones-members}
 use Rattle.analysis.specs.Worked.{totalAt, numeratorIn}
 use Rattle.analysis.proofs.Working.{set-small}
 use Rattle.analysis.proofs.fill_values.Statement.{statement}
 use Rattle.analysis.proofs.fill_values.Tie as tie
 
 abbrev Inv-loop : tie.InvT-loop
-Inv-loop totals v set vbeta sum values₀ members over-set lifted i₀ values i =
+Inv-loop totals v set t vbeta sum values₀ members over-set lifted i₀ values i =
     (i ≤ v) × (values ≡ over i (numeratorIn totals v set vbeta (toZ w64 sum)) values₀) × (length values ≡ length values₀)
 
 abbrev μ-loop : tie.MeasureT-loop
-μ-loop totals v set vbeta sum values₀ members over-set lifted i₀ values i = v - i
+μ-loop totals v set t vbeta sum values₀ members over-set lifted i₀ values i = v - i
 
--- how many the set has
-module _ (c : tie.After-ones Inv-loop μ-loop) where
-  few : c .ones .result ≤ 50
-  few = omega (arith, counted, members-most (c .before .args .v) (c .before .args .set), c .before .pre .0 .few)
-    where
-      counted : c .ones .result ≡ members (c .before .args .v) (c .before .args .set)
-      counted = c .ones .ensures ∙ ones-members _ _ (omega (arith, c .before .pre .0 .few)) (c .before .pre .1 .1)
-
+-- t, S, and the accepted sum times v·beta
+module _ (c : tie.After-set-sum Inv-loop μ-loop) where
   abbrev in-set : Num
   in-set = record {
-    bits = c .ones .result;
+    bits = c .before .args .t;
     num = pos (members (c .before .args .v) (c .before .args .set));
     size = 50;
-    reads = toZ-pos w64 (omega (arith, few)) ∙ ap pos (c .ones .ensures ∙ ones-members _ _ (omega (arith, c .before .pre .0 .few)) (c .before .pre .1 .1));
-    small = omega (arith, members-most (c .before .args .v) (c .before .args .set), c .before .pre .0 .few);
+    reads = toZ-pos w64 (omega (arith, c .before .pre .1 .2)) ∙ ap pos (c .before .pre .1 .1);
+    small = omega (arith, c .before .pre .1 .1, c .before .pre .1 .2);
   }
 
--- S, and the accepted sum times v·beta
-module _ (c : tie.After-set-sum Inv-loop μ-loop) where
   abbrev over-set : Num
   over-set = called (c .set-sum .result) 13000000000 (c .set-sum .ensures)
-      (le-trans (set-small _ _ (c .before .before .args .v) _ (c .before .before .pre .0) (omega arith)) (omega (arith, c .before .before .pre .0 .few))) (lit< tt)
+      (le-trans (set-small _ _ (c .before .args .v) _ (c .before .pre .0) (omega arith)) (omega (arith, c .before .pre .0 .few))) (lit< tt)
 
   abbrev scale : Num
-  scale = unsigned (c .before .before .args .vbeta) 2600 (c .before .before .pre .1 .2) (lit< tt)
+  scale = unsigned (c .before .args .vbeta) 2600 (c .before .pre .1 .3) (lit< tt)
 
   abbrev sum : Num
-  sum = param (c .before .before .args .sum) 1000000000 (c .before .before .pre .1 .3) (lit< tt)
+  sum = param (c .before .args .sum) 1000000000 (c .before .pre .1 .4) (lit< tt)
 
   abbrev lifted : Num
   lifted = times scale sum (lit< tt)
@@ -67,7 +56,7 @@ module _ (c : tie.After-total Inv-loop μ-loop) where
   sums = c .before .before .before
 
   abbrev start : tie.Start Inv-loop μ-loop
-  start = sums .before .before
+  start = sums .before
 
   abbrev i : ℕ
   i = c .before .before .loop .i
@@ -76,7 +65,7 @@ module _ (c : tie.After-total Inv-loop μ-loop) where
   total = number (totalAt (now (start .args .totals)) i) 260000000 (start .pre .0 .most i (omega arith)) (lit< tt)
 
   abbrev product : Num
-  product = times (in-set (sums .before)) total (lit< tt)
+  product = times (in-set sums) total (lit< tt)
 
   abbrev less : Num
   less = minus product (over-set sums) (lit< tt)
@@ -92,7 +81,7 @@ loop-again c =
 
 returns : tie.Need-returns Inv-loop μ-loop
 returns c =
-    let s = c .before .before .before .before in
+    let s = c .before .before .before in
     over-end _ _ (c .before .loop .inv .1) (omega arith)
     ∙ ap (λ (M : ℤ). over (s .args .v) (numeratorIn (now (s .args .totals)) (s .args .v) (s .args .set) (s .args .vbeta) M) (now (s .args .values))) (toZ-ofZ (s .fits .sum))
 
@@ -102,15 +91,14 @@ fill-values-spec =
     (tie.spec
     Inv-loop
     μ-loop
-    (λ c κs. search needs)
-    (λ c. omega (arith, few c))
-    (λ c κs. c .before .pre .0)
+    (λ c. omega (arith, c .pre .1 .2))
+    (λ c κs. c .pre .0)
     (λ c. small-fits _ (scale c .small) (lit< tt))
     (λ c. times-fits (scale c) (sum c) (lit< tt))
     (λ c. (omega arith, over-none _ _, refl))
     (λ c. omega arith)
-    (λ c. omega (arith, c .before .before .before .before .pre .0 .long))
-    (λ c. times-fits (in-set (sums c .before)) (total c) (lit< tt))
+    (λ c. omega (arith, c .before .before .before .pre .0 .long))
+    (λ c. times-fits (in-set (sums c)) (total c) (lit< tt))
     (λ c. minus-fits (product c) (over-set (sums c)) (lit< tt))
     (λ c. plus-fits (less c) (lifted (sums c)) (lit< tt))
     (λ c. omega arith)

@@ -1,0 +1,62 @@
+-- `judged_with_rooms`: each way out is the verdict of the tests that led there. Assumes nothing.
+use borrow.Author.Needs.{needs}
+use mathlib.Core.Path.{_≡_, sym, ap, _∙_}
+use denote.Ref.{now}
+use mir.Facts.{toZ-ofZ}
+use Rattle.meaning.specs.declared.Verdict.{Verdict}
+use Rattle.meaning.specs.declared.Judged.{Judged}
+use Rattle.meaning.specs.Refusals.{accepted, refused}
+use Rattle.meaning.specs.Calls.{jobVerdict}
+use Rattle.laws.proofs.Chains.{job}
+use Rattle.refusals.specs.Judgement.{judgedUnder}
+use Rattle.refusals.proofs.Rooms.{analyse-refused, analyse-rooms, no-judgement-with, judgement-with}
+use Rattle.refusals.proofs.judged_with_rooms.Statement.{statement}
+use Rattle.refusals.proofs.judged_with_rooms.Tie as tie
+
+-- the job's own verdict
+abbrev tests : tie.Start → Verdict
+tests s = jobVerdict (s .args .head) (now (s .args .blocks)) (now (s .args .readings)) (s .args .set) (s .args .sum)
+
+-- what its judgement says
+module _ (c : tie.After-judged-job) where
+  judgement : c .judged-job .result ≡ judgedUnder (tests (c .before .before)) (c .before .before .args .head) (now (c .before .before .args .blocks))
+  judgement = rw (toZ-ofZ (c .before .before .fits .sum)) at (c .judged-job .ensures)
+
+  judged-verdict : c .judged-job .result .verdict ≡ tests (c .before .before)
+  judged-verdict = ap (λ (r : Judged). r .verdict) judgement
+
+-- past the job's own tests
+passed : (c : tie.After-enum-told) → tests (c .before .before .before .before) ≡ accepted
+passed c = sym (judged-verdict (c .before .before)) ∙ c .enum-told .given .1
+
+returns : tie.Need-returns
+returns c =
+    let s = c .before .before .before .before .before .before in
+    let e : tests s ≡ refused _ _ = sym (judged-verdict (c .before .before .before .before)) ∙ c .before .before .verdict .given .1 in
+    c .no-judgement .ensures ∙ search (no-judgement-with _ _ _ _ _ _ _ _ _ _ (analyse-refused _ _ _ _ _ (s .args .words) (s .args .values) (s .args .deviations) _ _ e))
+
+returns-2 : tie.Need-returns-2
+returns-2 c =
+    c .no-judgement2 .ensures
+    ∙ no-judgement-with _ _ _ _ _ _ _ _ _ _ (analyse-rooms _ _ _ _ _ _ _ _ (passed (c .before .before .before .before .before))
+    ∙ sym (c .before .before .before .before .rooms-refusal .ensures) ∙ c .before .before .number .given .1)
+
+returns-3 : tie.Need-returns-3
+returns-3 c = let p = c .before .before .before in
+    judgement (p .before .before) ∙ judgement-with _ _ _ _ _ _ _ _ (passed p) (sym (c .before .before .rooms-refusal .ensures) ∙ c .enum-told2 .given .1)
+
+pub judged-with-rooms-spec : {M : Type 1} → statement M
+judged-with-rooms-spec =
+    tie.close
+    (tie.spec
+    (λ c κs. search needs)
+    (λ c. search needs)
+    (λ c κs. search needs)
+    returns
+    (λ c. search needs)
+    (λ c κs. job _ _ _ _ _ (passed c) .measures .design .sizes)
+    (λ c. search needs)
+    (λ c κs. search needs)
+    returns-2
+    (λ c. search needs)
+    returns-3)

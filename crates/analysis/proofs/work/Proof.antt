@@ -1,7 +1,7 @@
 -- `work`: each part by the call that makes it. Assumes nothing.
 use borrow.Author.Needs.{needs}
-use mathlib.Core.Path.{_≡_, ap, _∙_}
-use Prim.Native.Nat.{_*_, _≤_}
+use mathlib.Core.Path.{_≡_, refl, ap, _∙_}
+use Prim.Native.Nat.{_≤_}
 use native.Mathlib.Nat.{mul-le-mul}
 use native.Mathlib.Omega.{arith}
 use denote.Ref.{now}
@@ -9,7 +9,6 @@ use lib.IntN.{ℤ}
 use mir.Facts.{toZ-ofZ}
 use Rattle.algebra.specs.Buffers.{over}
 use Rattle.meaning.specs.Analysis.{members}
-use Rattle.meaning.specs.Refusals.{accepted}
 use Rattle.laws.proofs.Solution.{members-most}
 use Rattle.words.proofs.Sides.{ones-members}
 use Rattle.analysis.specs.Worked.{scaleIn, numeratorIn}
@@ -30,7 +29,7 @@ module _ (c : tie.After-ones) where
 fill-values-requires : tie.Need-fill-values-requires
 fill-values-requires c κs = let o = c .before in
     let s = start o in
-    (s .pre .0 .totalled, (s .pre .1 .0, counted o, few o, s .pre .0 .scale-most, rw (toZ-ofZ (s .fits .sum)) (s .pre .0 .sum-most)))
+    (s .pre .0 .totalled, (s .pre .1 .0, search (counted o), omega (arith, few o), s .pre .0 .scale-most, rw (toZ-ofZ (s .fits .sum)) (s .pre .0 .sum-most)))
 
 fill-deviations-requires : tie.Need-fill-deviations-requires
 fill-deviations-requires c κs = let s = start (c .before .before .before .before) in
@@ -40,12 +39,7 @@ returns : tie.Need-returns
 returns c =
     let o = c .before .before .before .before .before .before .before in
     let s = start o in (
-      (λ j. record {
-        verdict = accepted;
-        parameters = s .args .parameters;
-        denominator = counted o j * scaleIn (s .args .parameters);
-        spreading = c .measure .ensures j;
-      }),
+      rw (counted o, c .measure .ensures) refl,
       (
         c .before .before .before .before .before .fill-values .ensures
             ∙ ap (λ (M : ℤ). over (s .args .parameters .v) (numeratorIn (now (s .args .totals)) (s .args .parameters .v) (s .args .set) (scaleIn (s .args .parameters)) M) (now (s .args .values))) (toZ-ofZ (s .fits .sum)),

@@ -18,7 +18,7 @@ returns-2 c = let s = c .before .before .before in
 
 returns-3 : tie.Need-returns-3
 returns-3 c = let s = c .before .before .before .before in
-    sym (restrained-no (s .args .head) (s .args .set) (s .args .sum) (λ r. omega (arith, r .sum-most, too-low (s .args .sum) 999999999 (rw (toZ-ofZ (s .fits .sum)) at (c .if3 .taken)))))
+    sym (restrained-no (s .args .head) (s .args .set) (s .args .sum) (λ r. omega (arith, r .sum-most, too-low (s .args .sum) 999999999 (search (rw (toZ-ofZ (s .fits .sum)) at (c .if3 .taken))))))
 
 returns-4 : tie.Need-returns-4
 returns-4 c = let s = c .before .before .before .before .before in
@@ -30,7 +30,7 @@ returns-5 c = let s = c .before .before .before .before .before in
     sym (restrained-yes (s .args .head) (s .args .set) (s .args .sum) (record {
       set-some = omega (arith, c .before .before .before .if1 .left);
       set-inside = inside _ _ (search needs);
-      sum-most = between (s .args .sum) 999999999 (rw read at (c .before .if3 .left)) (search (rw read at (c .if4 .left)));
+      sum-most = between (s .args .sum) 999999999 (search (rw read at (c .before .if3 .left))) (search (rw read at (c .if4 .left)));
     }))
 
 pub restraint-refusal-spec : {M : Type 1} → statement M

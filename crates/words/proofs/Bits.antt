@@ -4,15 +4,17 @@
 --     pair-full         under a mask of two places every one is left just where both bits are 1
 -- Assumes nothing.
 use mathlib.Core.Path.{_≡_, refl, sym, ap, ap₂, _∙_}
+use mathlib.Core.Bool.{Bool, cond}
 use Prim.Native.Nat.{ℕ, zero, suc, _+_, _*_, _/_, _%_, _^_, _≤_, _<_, min}
 use native.Mathlib.Nat.{pow-suc, pow-succ', div-div-eq-div-mul, mod-lt, zero-lt-suc, one-mul, zero-mul, mul-mod-left, mul-div-cancel, div-one, mul-le-mul, le-of-suc-le-suc}
 use native.Mathlib.Numerals.{add-one}
 use native.Mathlib.Omega.{arith}
 use native.Mathlib.Decide.{ℕ-discrete}
+use borrow.Author.Tests.{eq-eqb, ne-eqb}
 use lib.Arith.{digits-div, digits-mod, lt-one}
 use lib.Bits.{bitAnd, bitOr, and-step, and-zero-r, or-zero-r, or-self, and-self, or-comm, or-mod, or-shr}
 use lib.Pow.{shl-exact, shr-lt}
-use lib.Dec.{lit<}
+use lib.Dec.{eqb, lit<}
 use lib.Count.{ones, ones-step}
 use Rattle.algebra.specs.Ranges.{sumℕ}
 use Rattle.algebra.proofs.Sums.{sumℕ-cong, sumℕ-first}
@@ -42,7 +44,7 @@ bit-none zero = refl
 bit-none (suc i) = bit-suc 0 i ∙ bit-none i
 
 -- half of a number of n + 1 places has n
-half-lt : (n w : ℕ) → w < 2 ^ suc n → w / 2 < 2 ^ n
+pub half-lt : (n w : ℕ) → w < 2 ^ suc n → w / 2 < 2 ^ n
 half-lt n w h = shr-lt n 1 (rw add-one h)
 
 -- a word of n places has no bit from n on
@@ -50,6 +52,28 @@ pub bit-past : (n w i : ℕ) → w < 2 ^ n → n ≤ i → bit w i ≡ 0
 bit-past zero w i h l = ap (λ (x : ℕ). bit x i) (lt-one h) ∙ bit-none i
 bit-past (suc n) w zero h l = absurd (omega arith)
 bit-past (suc n) w (suc i) h l = bit-suc w i ∙ bit-past n (w / 2) i (half-lt n w h) (omega arith)
+
+-- ---- one place
+
+-- 1 where i is x, and 0 otherwise
+abbrev pub once : ℕ → ℕ → ℕ
+once i x = cond (eqb i x) 1 0
+
+-- it is 1
+pub once-same : (i x : ℕ) → i ≡ x → once i x ≡ 1
+once-same i x e = ap (λ (t : Bool). cond t 1 0) (eq-eqb i x e)
+
+-- it is 0
+pub once-other : (i x : ℕ) → (i ≡ x → ⊥) → once i x ≡ 0
+once-other i x e = ap (λ (t : Bool). cond t 1 0) (ne-eqb i x e)
+
+-- the next numbers are the same just where these are
+pub once-suc : (i x : ℕ) → once (suc i) (suc x) ≡ once i x
+once-suc i x = by (ℕ-discrete i x)
+  where
+    by : Dec (i ≡ x) → once (suc i) (suc x) ≡ once i x
+    by (yes e) = once-same (suc i) (suc x) (ap suc e) ∙ sym (once-same i x e)
+    by (no e) = once-other (suc i) (suc x) (λ q. e (omega arith)) ∙ sym (once-other i x e)
 
 -- ---- the count of ones
 

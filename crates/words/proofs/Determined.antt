@@ -14,6 +14,12 @@ use Rattle.words.proofs.in_company.Reads as companyReads
 use Rattle.words.proofs.in_opposition as opposition
 use Rattle.words.proofs.in_opposition.Kinds as oppositionKinds
 use Rattle.words.proofs.in_opposition.Reads as oppositionReads
+use Rattle.words.proofs.lowest as lowest
+use Rattle.words.proofs.lowest.Kinds as lowestKinds
+use Rattle.words.proofs.lowest.Reads as lowestReads
+use Rattle.words.proofs.without_lowest as without
+use Rattle.words.proofs.without_lowest.Kinds as withoutKinds
+use Rattle.words.proofs.without_lowest.Reads as withoutReads
 
 -- the same number of ones
 module _ (κs : Lfts 0) (a : ArgsD ones.signature κs) (r q : ResD ones.signature κs) (s t : AtExit (endedOf 0 onesKinds.ps onesKinds.r) κs) where
@@ -29,3 +35,13 @@ module _ (κs : Lfts 0) (a : ArgsD company.signature κs) (r q : ResD company.si
 module _ (κs : Lfts 0) (a : ArgsD opposition.signature κs) (r q : ResD opposition.signature κs) (s t : AtExit (endedOf 0 oppositionKinds.ps oppositionKinds.r) κs) where
   pub in-opposition-determined : oppositionReads.Post κs a r s → oppositionReads.Post κs a q t → r ≡ q
   in-opposition-determined p e = p ∙ sym e
+
+-- the same lowest place
+module _ (κs : Lfts 0) (a : ArgsD lowest.signature κs) (r q : ResD lowest.signature κs) (s t : AtExit (endedOf 0 lowestKinds.ps lowestKinds.r) κs) where
+  pub lowest-determined : lowestReads.Post κs a r s → lowestReads.Post κs a q t → r ≡ q
+  lowest-determined p e = p ∙ sym e
+
+-- the same rest
+module _ (κs : Lfts 0) (a : ArgsD without.signature κs) (r q : ResD without.signature κs) (s t : AtExit (endedOf 0 withoutKinds.ps withoutKinds.r) κs) where
+  pub without-lowest-determined : withoutReads.Post κs a r s → withoutReads.Post κs a q t → r ≡ q
+  without-lowest-determined p e = p ∙ sym e

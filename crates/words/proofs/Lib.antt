@@ -1,4 +1,5 @@
 -- What is proved of words.
 pub mod Bits
 pub mod Sides
+pub mod Walk
 pub mod Determined

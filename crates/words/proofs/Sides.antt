@@ -5,14 +5,10 @@
 --     company-word, opposition-word   a pair's company and opposition in two words are those on the two sides
 -- Assumes nothing.
 use mathlib.Core.Path.{_≡_, refl, sym, ap, _∙_}
-use mathlib.Core.Bool.{Bool, cond}
 use mathlib.Core.List.{List, [], _∷_}
 use Prim.Native.Nat.{ℕ, zero, suc, _+_, _*_, _/_, _%_, _^_, _≤_, _<_}
 use native.Mathlib.Nat.{pow-suc, lt-of-lt-of-le}
 use native.Mathlib.Omega.{arith}
-use native.Mathlib.Decide.{ℕ-discrete}
-use borrow.Author.Tests.{eq-eqb, ne-eqb}
-use lib.Dec.{eqb}
 use lib.Pow.{pow-mono}
 use lib.ListN.{length}
 use Rattle.algebra.specs.Ranges.{sumℕ}
@@ -22,27 +18,7 @@ use Rattle.meaning.specs.Analysis.{members}
 use Rattle.meaning.specs.Calls.{word}
 use Rattle.laws.proofs.Occurrences.{Each, occ-total}
 use Rattle.words.specs.Bits.{bit, companyOf, oppositionOf}
-use Rattle.words.proofs.Bits.{bit-zero, bit-suc, bit-none, ones-sum}
-
--- 1 where i is x, and 0 otherwise
-abbrev once : ℕ → ℕ → ℕ
-once i x = cond (eqb i x) 1 0
-
--- it is 1
-once-same : (i x : ℕ) → i ≡ x → once i x ≡ 1
-once-same i x e = ap (λ (t : Bool). cond t 1 0) (eq-eqb i x e)
-
--- it is 0
-once-other : (i x : ℕ) → (i ≡ x → ⊥) → once i x ≡ 0
-once-other i x e = ap (λ (t : Bool). cond t 1 0) (ne-eqb i x e)
-
--- the next numbers are the same just where these are
-once-suc : (i x : ℕ) → once (suc i) (suc x) ≡ once i x
-once-suc i x = by (ℕ-discrete i x)
-  where
-    by : Dec (i ≡ x) → once (suc i) (suc x) ≡ once i x
-    by (yes e) = once-same (suc i) (suc x) (ap suc e) ∙ sym (once-same i x e)
-    by (no e) = once-other (suc i) (suc x) (λ q. e (omega arith)) ∙ sym (once-other i x e)
+use Rattle.words.proofs.Bits.{bit-zero, bit-suc, bit-none, once, once-same, once-other, once-suc, ones-sum}
 
 -- a power that is not in w yet sets its own bit
 bit-add : (x i w : ℕ) → bit w x ≡ 0 → bit (2 ^ x + w) i ≡ once i x + bit w i

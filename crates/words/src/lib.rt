@@ -3,7 +3,7 @@
 ghost use mathlib.Core.Path.{_≡_};
 ghost use Prim.Native.Nat.{_*_};
 ghost use Rattle.algebra.specs.Ranges.{sumℕ};
-ghost use Rattle.words.specs.Bits.{bit, companyOf, oppositionOf};
+ghost use Rattle.words.specs.Bits.{bit, companyOf, oppositionOf, lowestOf, withoutLowest};
 
 // How many objects stand in a word.
 pub fn ones(word: u64) -> u64
@@ -24,6 +24,23 @@ pub fn in_opposition(left: u64, right: u64, i: usize, j: usize) -> u64
     ensures { λ r. ⌜ r ≡ oppositionOf left right i j ⌝ }
 {
     holds(left, i) * holds(right, j) + holds(right, i) * holds(left, j)
+}
+
+// The place of the lowest object of a word, and 64 where it has none: with the next function, a walk of the objects of a word.
+pub fn lowest(word: u64) -> usize
+    ensures { λ r. ⌜ r ≡ lowestOf word ⌝ }
+{
+    u64::trailing_zeros(word) as usize
+}
+
+// A word without its lowest object. One that has none stays.
+pub fn without_lowest(word: u64) -> u64
+    ensures { λ r. ⌜ r ≡ withoutLowest word ⌝ }
+{
+    if word == 0 {
+        return 0;
+    }
+    word & (word - 1)
 }
 
 // 1 where i and j both stand in a word, and 0 otherwise: then the word has every one of the pair. With i twice the pair has a single one.

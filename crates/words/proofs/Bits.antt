@@ -53,6 +53,16 @@ bit-past zero w i h l = ap (λ (x : ℕ). bit x i) (lt-one h) ∙ bit-none i
 bit-past (suc n) w zero h l = absurd (omega arith)
 bit-past (suc n) w (suc i) h l = bit-suc w i ∙ bit-past n (w / 2) i (half-lt n w h) (omega arith)
 
+-- a number with no bit is 0
+none-set : (n w : ℕ) → w ≤ n → ((i : ℕ) → bit w i ≡ 0) → w ≡ 0
+none-set zero w l h = omega arith
+none-set (suc n) w l h = omega (arith, h 0, bit-zero w, none-set n (w / 2) (omega arith) (λ i. sym (bit-suc w i) ∙ h (suc i)))
+
+-- a number with no bit from n on has n places
+pub bits-below : (n w : ℕ) → ((i : ℕ) → n ≤ i → bit w i ≡ 0) → w < 2 ^ n
+bits-below zero w h = omega (arith, none-set w w (omega arith) (λ i. h i (omega arith)))
+bits-below (suc n) w h = omega (arith, pow-suc 2 n, bits-below n (w / 2) (λ i l. sym (bit-suc w i) ∙ h (suc i) (omega arith)))
+
 -- ---- one place
 
 -- 1 where i is x, and 0 otherwise

@@ -1,5 +1,6 @@
 -- A side as a word agrees with it as a list: a bit is how often the object stands there, and the count of ones is the number of objects.
 --     bit-word        the bit of an object is how often it stands on the side
+--     word-below      it has no bit from v on, where every object is below v
 --     ones-word       the ones of a side are its length
 --     ones-members    the ones of a restraint set are its members
 --     company-word, opposition-word   a pair's company and opposition in two words are those on the two sides
@@ -16,9 +17,9 @@ use Rattle.algebra.proofs.Sums.{sumℕ-cong}
 use Rattle.meaning.specs.Design.{occ}
 use Rattle.meaning.specs.Analysis.{members}
 use Rattle.meaning.specs.Calls.{word}
-use Rattle.laws.proofs.Occurrences.{Each, occ-total}
+use Rattle.laws.proofs.Occurrences.{Each, occ-total, occ-absent}
 use Rattle.words.specs.Bits.{bit, companyOf, oppositionOf}
-use Rattle.words.proofs.Bits.{bit-zero, bit-suc, bit-none, once, once-same, once-other, once-suc, ones-sum}
+use Rattle.words.proofs.Bits.{bit-zero, bit-suc, bit-none, bits-below, once, once-same, once-other, once-suc, ones-sum}
 
 -- a power that is not in w yet sets its own bit
 bit-add : (x i w : ℕ) → bit w x ≡ 0 → bit (2 ^ x + w) i ≡ once i x + bit w i
@@ -41,6 +42,10 @@ bit-word [] h i = bit-none i
 bit-word (x ∷ xs) h i =
     let later = bit-word xs (λ y. omega (arith, h y)) in
     bit-add x i (word xs) (omega (arith, later x, h x, once-same x x refl)) ∙ ap (λ (k : ℕ). once i x + k) (later i)
+
+-- the word of a side has no bit from v on, where every object is below v
+pub word-below : (v : ℕ) (xs : List ℕ) → ((x : ℕ) → occ x xs ≤ 1) → Each (λ x. x < v) xs → word xs < 2 ^ v
+word-below v xs h b = bits-below v (word xs) (λ i l. bit-word xs h i ∙ occ-absent i xs (λ c m e. omega (arith, b c m)))
 
 -- the ones of a side are the number of its objects
 pub ones-word : (xs : List ℕ) → ((x : ℕ) → occ x xs ≤ 1) → Each (λ x. x < 64) xs → sumℕ 64 (bit (word xs)) ≡ length xs

@@ -1,34 +1,38 @@
 -- The judgement, by what its tests gave: the test over two tables is the test of balance, and each way out of the call has its answer.
 --     pair-company-other, pair-opposition-other, pair-even    the test of one pair
 --     tables-more, tables-fail                                one turn of the test over two tables
+--     room-enough, company-left, opposition-left              what the counting leaves
 --     tables-tell, side-size                                  what the tables and the words of an accepted block list say
 --     tables-refused, tables-accepted                         the judgement over two tables
 --     judged-refused, judged-accepted                         the answer of the call
 -- Assumes nothing.
 use Prim.Native.Nat.{ℕ, _+_, _-_, _*_, _≤_, _<_}
 use mathlib.Core.Path.{_≡_, refl, ap, ap₂, _∙_}
-use mathlib.Core.Bool.{true, false, _&&_}
+use mathlib.Core.Bool.{Bool, true, false, _&&_}
 use mathlib.Core.List.{List, [], replicate}
-use native.Mathlib.Nat.{mul-le-mul}
+use native.Mathlib.Nat.{add-le-add, mul-le-mul}
 use native.Mathlib.Omega.{arith}
-use borrow.Author.Tests.{eq-eqb, ne-eqb}
+use borrow.Author.Tests.{eq-eqb, ne-eqb, le-leb}
 use lib.Dec.{eqb}
 use lib.ListN.{getD}
 use Rattle.algebra.specs.Ranges.{sumℕ}
 use Rattle.algebra.specs.Buffers.{over}
 use Rattle.algebra.proofs.Filling.{getD-over}
+use Rattle.algebra.proofs.Sums.{sumℕ-le-const}
 use Rattle.algebra.proofs.Tests.{all-cong, all-more, all-fails}
 use Rattle.meaning.specs.declared.Head.{Head}
 use Rattle.meaning.specs.declared.Judged.{Judged}
-use Rattle.meaning.specs.Design.{objects, blocks, left, company, opposition, balanced, beta}
-use Rattle.meaning.specs.Refusals.{accepted, refused}
-use Rattle.meaning.specs.Calls.{wordAt, designVerdict, judgeVerdict, judged, noParameters, tableOf}
-use Rattle.laws.proofs.Chains.{Sound, sound}
+use Rattle.meaning.specs.declared.Verdict.{Verdict}
+use Rattle.meaning.specs.declared.Verdict.the-variants.{Accepted, Refused}
+use Rattle.meaning.specs.Design.{objects, blocks, occ, left, right, company, opposition, balanced, beta}
+use Rattle.meaning.specs.Refusals.{accepted, refused, test, _⨾_, room}
+use Rattle.meaning.specs.Calls.{wordAt, designVerdict, developVerdict, wordsUnder, judgeVerdict, judged, noParameters, noTable, tableOf, companyTable, oppositionTable}
+use Rattle.laws.proofs.Chains.{Sound, sound, given-yes}
 use Rattle.laws.proofs.Clean.{block-once, left-objects, left-length}
 use Rattle.words.specs.Bits.{bit}
 use Rattle.words.proofs.Sides.{ones-word}
-use Rattle.balance.specs.Tables.{tally, entry, pairEven, rowEven, tablesEven, tablesJudged}
-use Rattle.balance.proofs.Counted.{tally-most, left-word, company-counted, opposition-counted}
+use Rattle.pairs.specs.Meetings.{entry, companyUnder, oppositionUnder}
+use Rattle.balance.specs.Tables.{pairEven, rowEven, tablesEven, tablesJudged}
 
 -- ---- the test of one pair
 
@@ -82,25 +86,58 @@ module _ (h : Head) (d : List ℕ) (s : Sound h d) where
   unfolding tablesEven balanced
   tables-balanced = all-cong (objects h) _ _ (λ i l. all-cong i _ _ (λ j m. ap₂ _&&_ (same (company h d) i j l m) (same (opposition h d) i j l m)))
 
--- ---- an accepted block list, by its developed words and the two tables that are counted in them
-module _ (h : Head) (d : List ℕ) (e : designVerdict h d ≡ accepted) {ws : List ℕ} (w : ws ≡ over (2 * blocks h) (wordAt h d) (replicate 2600 0)) where
+-- ---- what the counting leaves in 2600 words and in two tables of zeros
+
+module _ (h : Head) (d : List ℕ) where
+  -- room for 2600 words is always enough
+  pub room-enough : developVerdict h d 2600 ≡ designVerdict h d
+  unfolding developVerdict
+  room-enough = by (designVerdict h d) refl
+    where
+      by : (a : Verdict) → designVerdict h d ≡ a → a ⨾ room 2600 (2 * blocks h) ≡ a
+      by Accepted e = ap (λ (t : Bool). test t 10 0) (le-leb (2 * blocks h) 2600 (let f = sound h d e .sizes in omega arith))
+      by (Refused k at) e = refl
+
+  -- the first table, of zeros before, is the table of company
+  pub company-left : {z t : List (List ℕ)} → z ≡ noTable → t ≡ companyUnder (developVerdict h d 2600) h d z → t ≡ companyTable h d
+  company-left z e = e ∙ ap₂ (λ (v : Verdict) (u : List (List ℕ)). companyUnder v h d u) room-enough z
+
+  -- the second is the table of opposition
+  pub opposition-left : {z t : List (List ℕ)} → z ≡ noTable → t ≡ oppositionUnder (developVerdict h d 2600) h d z → t ≡ oppositionTable h d
+  opposition-left z e = e ∙ ap₂ (λ (v : Verdict) (u : List (List ℕ)). oppositionUnder v h d u) room-enough z
+
+  -- no two objects oppose more often than twice a block
+  opposition-most : Sound h d → (i j : ℕ) → opposition h d i j ≤ blocks h * 2
+  unfolding opposition
+  opposition-most s i j = sumℕ-le-const (blocks h) 2 _ (λ k l. add-le-add (mul-le-mul (left-once k l i) (right-once k l j)) (mul-le-mul (right-once k l i) (left-once k l j)))
+    where
+      left-once : (k : ℕ) → k < blocks h → (x : ℕ) → occ x (left h d k) ≤ 1
+      left-once k l x = omega (arith, block-once h d s k l x)
+
+      right-once : (k : ℕ) → k < blocks h → (x : ℕ) → occ x (right h d k) ≤ 1
+      right-once k l x = omega (arith, block-once h d s k l x)
+
+-- ---- an accepted block list, by the words and the two tables that were left
+module _ (h : Head) (d : List ℕ) (e : designVerdict h d ≡ accepted) where
   -- the ones of the first word are the size of a side
-  pub side-size : sumℕ 64 (bit (getD ws 0 0)) ≡ h .p
-  side-size =
+  pub side-size : {ws : List ℕ} → ws ≡ wordsUnder (developVerdict h d 2600) h d (replicate 2600 0) → sumℕ 64 (bit (getD ws 0 0)) ≡ h .p
+  unfolding wordAt
+  side-size w =
       let s = sound h d e in
       let fit = s .sizes in
       let some : 1 ≤ h .n = omega arith in
       let first : 0 < blocks h = mul-le-mul (fit .m-least) some in
-      ap (λ (x : ℕ). sumℕ 64 (bit x)) (left-word h d s ws w 0 first)
+      ap (λ (t : List ℕ). sumℕ 64 (bit (getD t 0 0))) (w ∙ ap (λ (v : Verdict). wordsUnder v h d (replicate 2600 0)) (room-enough h d ∙ e))
+      ∙ ap (λ (x : ℕ). sumℕ 64 (bit x)) (getD-over (2 * blocks h) (wordAt h d) (replicate 2600 0) 0 0 (omega arith) (omega arith))
       ∙ ones-word (left h d 0) (λ x. omega (arith, block-once h d s 0 first x)) (λ k l. omega (arith, left-objects h d s 0 first k l))
       ∙ left-length h d s 0 first
 
-  module _ {c o : List (List ℕ)} (p : c ≡ tableOf (objects h) (tally false ws (blocks h))) (q : o ≡ tableOf (objects h) (tally true ws (blocks h))) where
+  module _ {c o : List (List ℕ)} (p : c ≡ companyUnder (developVerdict h d 2600) h d noTable) (q : o ≡ oppositionUnder (developVerdict h d 2600) h d noTable) where
     company-is : c ≡ tableOf (objects h) (company h d)
-    company-is = p ∙ ap (tableOf (objects h)) (company-counted h d (sound h d e) ws w)
+    company-is = company-left h d refl p ∙ given-yes (designVerdict h d) _ _ e
 
     opposition-is : o ≡ tableOf (objects h) (opposition h d)
-    opposition-is = q ∙ ap (tableOf (objects h)) (opposition-counted h d (sound h d e) ws w)
+    opposition-is = opposition-left h d refl q ∙ given-yes (designVerdict h d) _ _ e
 
     -- the test over them is the test of balance
     pub tables-tell : tablesEven c o (objects h) ≡ balanced h d
@@ -119,11 +156,8 @@ module _ (h : Head) (d : List ℕ) (e : designVerdict h d ≡ accepted) {ws : Li
         ap (λ (t : List (List ℕ)). entry t 1 0) opposition-is ∙ entry-of (objects h) (opposition h d) 1 0 (omega arith) (omega arith) (omega arith)
 
     -- it is small
-    pub opposition-most : entry o 1 0 ≤ 2600
-    opposition-most =
-        let fit = sound h d e .sizes in
-        let is : entry o 1 0 ≡ tally true ws (blocks h) 1 0 = ap (λ (t : List (List ℕ)). entry t 1 0) q ∙ entry-of (objects h) (tally true ws (blocks h)) 1 0 (omega arith) (omega arith) (omega arith) in
-        omega (arith, is, tally-most true ws 1 0 (blocks h))
+    pub first-most : entry o 1 0 ≤ 2600
+    first-most = let fit = sound h d e .sizes in omega (arith, opposition-first, opposition-most h d (sound h d e) 1 0)
 
 -- ---- the answers
 

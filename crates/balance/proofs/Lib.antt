@@ -1,4 +1,3 @@
 -- What the proofs of the functions stand on.
-pub mod Counted
 pub mod Judging
 pub mod Determined

@@ -1,35 +1,21 @@
--- The meetings of two objects, counted in developed words, and the test of balance over two tables of them. Block k has the left word 2k and the right word 2k + 1.
--- Assumes nothing.
-use Prim.Native.Nat.{ℕ, _+_, _-_, _*_}
+-- The test of balance over two pair tables, and the judgement that follows from it. Assumes nothing.
+use Prim.Native.Nat.{ℕ, _-_, _*_}
 use mathlib.Core.Bool.{Bool, true, false, _&&_}
 use mathlib.Core.List.{List, []}
 use lib.ListN.{getD}
 use lib.Dec.{eqb}
-use Rattle.algebra.specs.Ranges.{sumℕ, all}
+use Rattle.algebra.specs.Ranges.{all}
 use Rattle.meaning.specs.declared.Head.{Head}
 use Rattle.meaning.specs.declared.Judged.{Judged}
 use Rattle.meaning.specs.declared.Parameters.{Parameters}
 use Rattle.meaning.specs.Refusals.{test}
 use Rattle.meaning.specs.Calls.{given, companyTable, oppositionTable, noParameters}
-use Rattle.words.specs.Bits.{companyOf, oppositionOf}
-
--- how often i and j meet in the words l and r: in different ones, or in the same
-abbrev pub meetings : Bool → ℕ → ℕ → ℕ → ℕ → ℕ
-meetings true l r i j = oppositionOf l r i j
-meetings false l r i j = companyOf l r i j
-
--- how often they meet in the first b blocks
-unfoldable pub tally : Bool → List ℕ → ℕ → ℕ → ℕ → ℕ
-tally opposite ws b i j = sumℕ b (λ k. meetings opposite (getD ws (2 * k) 0) (getD ws (2 * k + 1) 0) i j)
+use Rattle.pairs.specs.Meetings.{entry}
 
 -- the two pair tables by one name
 abbrev pub pairTable : Bool → Head → List ℕ → List (List ℕ)
 pairTable true h d = oppositionTable h d
 pairTable false h d = companyTable h d
-
--- row i and column j of a table
-abbrev pub entry : List (List ℕ) → ℕ → ℕ → ℕ
-entry t i j = getD (getD t i []) j 0
 
 -- column j of a row of each table is l1 and l2
 abbrev pub pairEven : List ℕ → List ℕ → ℕ → ℕ → ℕ → Bool

@@ -3,7 +3,7 @@
 --     word-below      it has no bit from v on, where every object is below v
 --     ones-word       the ones of a side are its length
 --     ones-members    the ones of a restraint set are its members
---     company-word, opposition-word   a pair's company and opposition in two words are those on the two sides
+--     company-word, opposition-word   a pair's company in the word of a side and its opposition in two are those on the sides
 -- Assumes nothing.
 use mathlib.Core.Path.{_≡_, refl, sym, ap, _∙_}
 use mathlib.Core.List.{List, [], _∷_}
@@ -56,12 +56,10 @@ pub ones-members : (v w : ℕ) → v ≤ 64 → w < 2 ^ v → sumℕ 64 (bit w) 
 unfolding members
 ones-members v w l h = sym (ones-sum 64 w (lt-of-lt-of-le h (pow-mono {j = 64} l))) ∙ ones-sum v w h
 
--- a pair's company in the words of two sides
-pub company-word : (xs ys : List ℕ) → ((x : ℕ) → occ x xs ≤ 1) → ((x : ℕ) → occ x ys ≤ 1) → (i j : ℕ)
-    → companyOf (word xs) (word ys) i j ≡ occ i xs * occ j xs + occ i ys * occ j ys
-company-word xs ys h k i j = rw (bit-word xs h i, bit-word xs h j, bit-word ys k i, bit-word ys k j)
+-- a pair's company in the word of a side
+pub company-word : (xs : List ℕ) → ((x : ℕ) → occ x xs ≤ 1) → (i j : ℕ) → companyOf (word xs) i j ≡ occ i xs * occ j xs
+company-word xs h i j = rw (bit-word xs h i, bit-word xs h j)
 
 -- a pair's opposition in the words of two sides
-pub opposition-word : (xs ys : List ℕ) → ((x : ℕ) → occ x xs ≤ 1) → ((x : ℕ) → occ x ys ≤ 1) → (i j : ℕ)
-    → oppositionOf (word xs) (word ys) i j ≡ occ i xs * occ j ys + occ i ys * occ j xs
-opposition-word xs ys h k i j = rw (bit-word xs h i, bit-word xs h j, bit-word ys k i, bit-word ys k j)
+pub opposition-word : (xs ys : List ℕ) → ((x : ℕ) → occ x xs ≤ 1) → ((x : ℕ) → occ x ys ≤ 1) → (i j : ℕ) → oppositionOf (word xs) (word ys) i j ≡ occ i xs * occ j ys
+opposition-word xs ys h k i j = rw (bit-word xs h i, bit-word ys k j)

@@ -1,6 +1,7 @@
 -- The objects of a word one by one, lowest first.
 --     lowest-trailing         the lowest place with a 1 has as many zeros below it as the language counts
 --     lowest-one, lowest-lt   the bit there is 1, and it is a place of the word
+--     some-left, none-left    there is one just where the word is not 0
 --     rest-masked             the word without it, as the code makes it
 --     rest-bit                a bit of the word is that of the rest, but for the lowest
 --     rest-here, rest-other   the same at the lowest place, and at another
@@ -17,7 +18,7 @@ use lib.Dec.{eqb}
 use lib.Arith.{lt-one}
 use lib.Pow.{pow-pos}
 use lib.Bits.{bitAnd, and-step, and-self}
-use lib.Count.{trailingZeros, trailing-le, under}
+use lib.Count.{trailingZeros, trailing-le, trailing-of-zero, under}
 use Rattle.algebra.specs.Ranges.{firstFrom}
 use Rattle.algebra.proofs.Tests.{first-is, first-from-none}
 use Rattle.words.specs.Bits.{bit, lowestOf, withoutLowest}
@@ -80,6 +81,16 @@ lowest-lt n w p h l = rw (← lowest-trailing w) (trailing-lt n 64 w p h l)
 -- and its bit is 1
 pub lowest-one : (w : ℕ) → 0 < w → w < 2 ^ 64 → bit w (lowestOf w) ≡ 1
 lowest-one w p h = rw (← lowest-trailing w) (trailing-one 64 w (trailing-lt 64 64 w p h (omega arith)))
+
+-- a word with a lowest place has an object
+pub some-left : (w : ℕ) → lowestOf w < 64 → 0 < w
+some-left zero l = absurd (omega (arith, lowest-trailing 0, trailing-of-zero 64))
+some-left (suc w) l = omega arith
+
+-- a word with none is 0
+pub none-left : (w : ℕ) → w < 2 ^ 64 → 64 ≤ lowestOf w → w ≡ 0
+none-left zero h l = refl
+none-left (suc w) h l = absurd (omega (arith, lowest-lt 64 (suc w) (omega arith) h (omega arith)))
 
 -- ---- the rest
 

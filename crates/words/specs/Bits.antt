@@ -1,5 +1,5 @@
 -- What the bits of a word say: one bit an object. Assumes nothing.
-use Prim.Native.Nat.{ℕ, _+_, _-_, _*_, _/_, _%_, _^_}
+use Prim.Native.Nat.{ℕ, _-_, _*_, _/_, _%_, _^_}
 use lib.Dec.{eqb}
 use Rattle.algebra.specs.Ranges.{firstFrom}
 
@@ -7,13 +7,13 @@ use Rattle.algebra.specs.Ranges.{firstFrom}
 abbrev pub bit : ℕ → ℕ → ℕ
 bit w i = w / 2 ^ i % 2
 
--- in how many of the words l and r both i and j stand; with i twice, in how many i stands
-abbrev pub companyOf : ℕ → ℕ → ℕ → ℕ → ℕ
-companyOf l r i j = bit l i * bit l j + bit r i * bit r j
+-- 1 where both i and j stand in w, and 0 otherwise; with i twice, where i stands
+abbrev pub companyOf : ℕ → ℕ → ℕ → ℕ
+companyOf w i j = bit w i * bit w j
 
--- how often one of i and j stands in l and the other in r
+-- 1 where i stands in w and j in u, and 0 otherwise
 abbrev pub oppositionOf : ℕ → ℕ → ℕ → ℕ → ℕ
-oppositionOf l r i j = bit l i * bit r j + bit r i * bit l j
+oppositionOf w u i j = bit w i * bit u j
 
 -- the lowest place of w with a 1, and 64 where there is none
 unfoldable pub lowestOf : ℕ → ℕ

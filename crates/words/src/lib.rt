@@ -1,7 +1,6 @@
 // A side of a block, or a restraint set, as a 64-bit word, one bit an object. Every count is the language's own count of ones.
 // Each function takes any word and any place: a place from 64 on is in no word.
 ghost use mathlib.Core.Path.{_≡_};
-ghost use Prim.Native.Nat.{_*_};
 ghost use Rattle.algebra.specs.Ranges.{sumℕ};
 ghost use Rattle.words.specs.Bits.{bit, companyOf, oppositionOf, lowestOf, withoutLowest};
 
@@ -12,18 +11,29 @@ pub fn ones(word: u64) -> u64
     u64::count_ones(word) as u64
 }
 
-// In how many of two words i and j stand together; with i twice, in how many i stands.
-pub fn in_company(left: u64, right: u64, i: usize, j: usize) -> u64
-    ensures { λ r. ⌜ r ≡ companyOf left right i j ⌝ }
+// 1 where i and j both stand in a word, and 0 otherwise: then the word has every one of the pair. With i twice, where i stands: the pair has a single one.
+pub fn in_company(word: u64, i: usize, j: usize) -> u64
+    ensures { λ r. ⌜ r ≡ companyOf word i j ⌝ }
 {
-    together(left, i, j) + together(right, i, j)
+    if 63 < i {
+        return 0;
+    }
+    if 63 < j {
+        return 0;
+    }
+    let pair = (1u64 << i) | (1u64 << j);
+    if u64::count_ones(word & pair) == u64::count_ones(pair) {
+        1
+    } else {
+        0
+    }
 }
 
-// How often one of i and j stands in the left word and the other in the right. The words may share objects.
-pub fn in_opposition(left: u64, right: u64, i: usize, j: usize) -> u64
-    ensures { λ r. ⌜ r ≡ oppositionOf left right i j ⌝ }
+// 1 where i stands in one word and j in another, and 0 otherwise. The words may share objects.
+pub fn in_opposition(own: u64, other: u64, i: usize, j: usize) -> u64
+    ensures { λ r. ⌜ r ≡ oppositionOf own other i j ⌝ }
 {
-    holds(left, i) * holds(right, j) + holds(right, i) * holds(left, j)
+    holds(own, i) * holds(other, j)
 }
 
 // The place of the lowest object of a word, and 64 where it has none: with the next function, a walk of the objects of a word.
@@ -41,24 +51,6 @@ pub fn without_lowest(word: u64) -> u64
         return 0;
     }
     word & (word - 1)
-}
-
-// 1 where i and j both stand in a word, and 0 otherwise: then the word has every one of the pair. With i twice the pair has a single one.
-fn together(word: u64, i: usize, j: usize) -> u64
-    ensures { λ r. ⌜ r ≡ bit word i * bit word j ⌝ }
-{
-    if 63 < i {
-        return 0;
-    }
-    if 63 < j {
-        return 0;
-    }
-    let pair = (1u64 << i) | (1u64 << j);
-    if u64::count_ones(word & pair) == u64::count_ones(pair) {
-        1
-    } else {
-        0
-    }
 }
 
 // 1 where i stands in a word, and 0 otherwise.

@@ -3,6 +3,7 @@ use Prim.Native.Nat.{_-_, _≤_}
 use mathlib.Core.Path.{sym, _∙_}
 use native.Mathlib.Nat.{mul-le-mul}
 use borrow.Author.Tests.{not-true, not-false}
+use denote.Ref.{now}
 use Rattle.balance.proofs.Judging.{tables-refused, tables-accepted}
 use native.Mathlib.Omega.{arith}
 use borrow.Author.Needs.{needs}
@@ -12,7 +13,7 @@ use Rattle.balance.proofs.judge_tables.Tie as tie
 returns : tie.Need-returns
 returns c =
     let a = c .before .before .before .args in
-    tables-refused (a .v) (a .b) (a .p) (a .t4) (a .t5) (sym (c .before .before .tables-even .ensures) ∙ not-true _ (c .before .if1 .taken)) (search needs)
+    tables-refused (a .v) (a .b) (a .p) (now (a .company)) (now (a .opposition)) (sym (c .before .before .tables-even .ensures) ∙ not-true _ (c .before .if1 .taken)) (search needs)
 
 mul-r : tie.Need-mul-r
 mul-r c =
@@ -24,7 +25,7 @@ mul-r c =
 returns-2 : tie.Need-returns-2
 returns-2 c =
     let a = c .before .before .before .before .before .args in
-    tables-accepted (a .v) (a .b) (a .p) (a .t4) (a .t5) _ _ _ _ _ _ (sym (c .before .before .before .before .tables-even .ensures) ∙ not-false _ (c .before .before .before .if1 .left))
+    tables-accepted (a .v) (a .b) (a .p) (now (a .company)) (now (a .opposition)) _ _ _ _ _ _ (sym (c .before .before .before .before .tables-even .ensures) ∙ not-false _ (c .before .before .before .if1 .left))
     (search needs) (search needs) (rw (c .less .ensures) (search needs)) (search needs) (search needs) (search needs)
 
 pub judge-tables-spec : {M : Type 1} → statement M

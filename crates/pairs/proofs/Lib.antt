@@ -1,0 +1,4 @@
+-- What the proofs of the functions stand on.
+pub mod Adding
+pub mod Counted
+pub mod Determined

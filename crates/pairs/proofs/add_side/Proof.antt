@@ -1,0 +1,97 @@
+-- `pairs::add_side` meets its contract: what the rest of the side is still to add to its rows, added now, is what the side was to add at first. Assumes nothing.
+use Prim.Native.Nat.{_^_, _<_}
+use mathlib.Core.Path.{_≡_, refl}
+use mathlib.Core.List.{[]}
+use denote.Ref.{now}
+use Rattle.words.specs.Bits.{companyOf, oppositionOf, lowestOf}
+use Rattle.words.proofs.Bits.{product-most}
+use Rattle.words.proofs.Walk.{lowest-lt, some-left, none-left, rest-less}
+use Rattle.pairs.specs.Meetings.{rowMore}
+use Rattle.pairs.proofs.Adding.{each-same, walked, walk-step, walk-end, rows-most}
+use native.Mathlib.Omega.{arith}
+use borrow.Author.Needs.{needs}
+use Rattle.pairs.proofs.add_side.Statement.{statement}
+use Rattle.pairs.proofs.add_side.Tie as tie
+
+abbrev Inv-loop : tie.InvT-loop
+Inv-loop own other company₀ opposition₀ rest₀ i₀ company opposition rest i =
+    (i ≡ lowestOf rest) × (rest < 2 ^ 50)
+    × (walked rest (λ k. rowMore (companyOf own k)) company ≡ walked own (λ k. rowMore (companyOf own k)) company₀)
+    × (walked rest (λ k. rowMore (oppositionOf own other k)) opposition ≡ walked own (λ k. rowMore (oppositionOf own other k)) opposition₀)
+
+abbrev μ-loop : tie.MeasureT-loop
+μ-loop own other company₀ opposition₀ rest₀ i₀ company opposition rest i = rest
+
+-- within the loop there is an object, and it has a row
+some : (c : tie.In-loop Inv-loop μ-loop) → 0 < c .before .loop .rest
+some c = some-left _ (omega arith)
+
+row : (c : tie.In-loop Inv-loop μ-loop) → c .before .loop .i < 50
+row c = omega (arith, lowest-lt 50 (c .before .loop .rest) (some c) (c .before .loop .inv .1) (omega arith))
+
+loop-holds : tie.Need-loop-holds Inv-loop μ-loop
+loop-holds c = (search needs, search needs, refl, refl)
+
+add-company-requires : tie.Need-add-company-requires Inv-loop μ-loop
+add-company-requires c κs =
+    let s = c .before .before .before .before in
+    let a = s .args in
+    let l = c .before .before .loop in (
+      s .pre .0 .0,
+      λ j. omega (arith, rows-most (companyOf (a .own)) (product-most (a .own) (a .own)) (l .rest) (a .own) (l .company) (now (a .company)) (l .inv .2) (l .i) j, s .pre .1 .0 (l .i) j),
+    )
+
+add-opposition-requires : tie.Need-add-opposition-requires Inv-loop μ-loop
+add-opposition-requires c κs =
+    let s = c .before .before .before .before .before .before in
+    let a = s .args in
+    let l = c .before .before .before .before .loop in (
+      s .pre .0 .1,
+      λ j. omega (
+        arith,
+        rows-most (oppositionOf (a .own) (a .other)) (product-most (a .own) (a .other)) (l .rest) (a .own) (l .opposition) (now (a .opposition)) (l .inv .3) (l .i) j,
+        s .pre .1 .1 (l .i) j,
+      ),
+    )
+
+loop-again : tie.Need-loop-again Inv-loop μ-loop
+loop-again c =
+    let a = c .before .before .before .before .before .before .before .before .before .args in
+    let l = c .before .before .before .before .before .before .before .loop in
+    let p = some (c .before .before .before .before .before .before) in
+    let less = rest-less (l .rest) p in
+    let rest = c .before .without-lowest .ensures in (
+      c .lowest2 .ensures,
+      omega arith,
+      walk-step (λ k. rowMore (companyOf (a .own) k)) (l .rest) (l .company) [] p (omega arith) (l .inv .0) rest (c .before .before .before .before .add-company .ensures) (l .inv .2),
+      walk-step (λ k. rowMore (oppositionOf (a .own) (a .other) k)) (l .rest) (l .opposition) [] p (omega arith) (l .inv .0) rest (c .before .before .add-opposition .ensures) (l .inv .3),
+    )
+
+returns : tie.Need-returns Inv-loop μ-loop
+returns c =
+    let a = c .before .before .before .args in
+    let l = c .before .loop in
+    let none : l .rest ≡ 0 = none-left (l .rest) (omega arith) (omega arith) in (
+      walk-end (λ k. rowMore (companyOf (a .own) k)) (a .own) (l .company) (now (a .company)) (λ k r e. each-same _ r (λ j x. rw e (omega arith))) (rw none at (l .inv .2)),
+      walk-end (λ k. rowMore (oppositionOf (a .own) (a .other) k)) (a .own) (l .opposition) (now (a .opposition)) (λ k r e. each-same _ r (λ j x. rw e (omega arith))) (rw none at (l .inv .3)),
+    )
+
+pub add-side-spec : {M : Type 1} → statement M
+add-side-spec =
+    tie.close
+    (tie.spec
+    Inv-loop
+    μ-loop
+    (λ c κs. search needs)
+    loop-holds
+    (λ c. omega (arith, row c))
+    (λ c. omega (arith, row c))
+    add-company-requires
+    (λ c. omega (arith, row (c .before .before)))
+    (λ c. omega (arith, row (c .before .before)))
+    add-opposition-requires
+    (λ c κs. search needs)
+    (λ c κs. search needs)
+    (λ c. omega (arith, rest-less _ (some (c .before .before .before .before .before .before))))
+    loop-again
+    returns)

@@ -1,0 +1,2 @@
+-- What is counted in words, and where it goes.
+pub mod Meetings

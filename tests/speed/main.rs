@@ -104,10 +104,6 @@ fn judge_plain(job: &Job) -> Option<u64> {
     plain::judge(job.head, black_box(&job.blocks)).ok().map(|a| a.l2)
 }
 
-fn judge_in_one_walk(job: &Job) -> Option<u64> {
-    plain::judge_in_one_walk(job.head, black_box(&job.blocks)).ok().map(|a| a.l2)
-}
-
 /// Both take rooms that are lent once, so that no allocation is measured.
 struct Rooms {
     words: Vec<u64>,
@@ -134,24 +130,24 @@ fn row(job: &Job) {
     let (proved_rooms, plain_rooms) = (std::cell::RefCell::new(rooms()), std::cell::RefCell::new(rooms()));
     let proved = || solve_proved(job, &mut proved_rooms.borrow_mut());
     let plain = || solve_plain(job, &mut plain_rooms.borrow_mut());
-    assert!(judge_proved(job).is_some() && judge_proved(job) == judge_plain(job) && judge_plain(job) == judge_in_one_walk(job));
+    assert!(judge_proved(job).is_some() && judge_proved(job) == judge_plain(job));
     assert!(proved().is_some() && proved() == plain());
     let (a, b) = (proved_rooms.borrow(), plain_rooms.borrow());
     assert!(a.words == b.words && a.values == b.values && a.deviations == b.deviations);
     drop((a, b));
-    let [jp, jr, jw] = times([&|| judge_proved(job), &|| judge_plain(job), &|| judge_in_one_walk(job)]);
+    let [jp, jr] = times([&|| judge_proved(job), &|| judge_plain(job)]);
     let [sp, sr] = times([&proved, &plain]);
     let (v, b, p) = (job.objects(), job.head.m * job.head.n, job.head.p);
-    println!("| {v} | {b} | {p} | {jp:.1} | {jr:.1} | {:.2} | {jw:.1} | {sp:.1} | {sr:.1} | {:.2} |", jp / jr, sp / sr);
+    println!("| {v} | {b} | {p} | {jp:.1} | {jr:.1} | {:.2} | {sp:.1} | {sr:.1} | {:.2} |", jp / jr, sp / sr);
 }
 
 fn table(title: &str, jobs: Vec<Job>) {
-    println!("\n{title}\n\n| v | b | p | judge: proved | plain | ratio | in one walk | solve: proved | plain | ratio |\n|---|---|---|---|---|---|---|---|---|---|");
+    println!("\n{title}\n\n| v | b | p | judge: proved | plain | ratio | solve: proved | plain | ratio |\n|---|---|---|---|---|---|---|---|---|");
     jobs.iter().for_each(row);
 }
 
 fn main() {
-    println!("Microseconds a call, the least of many. Plain: the same method by hand in Rust. In one walk: another method, in plain Rust.");
+    println!("Microseconds a call, the least of many. Plain: the same method by hand in Rust.");
     let a = Job::new(5, 0, 2, vec![1, 4, 2, 3]);
     let f = Job::new(13, 0, 2, vec![1, 12, 8, 5, 4, 9, 6, 7, 3, 10, 11, 2]);
     table("Proved against plain", vec![a, f, squares(47, 0), squares(47, 1), pairs(49, 0, 1), pairs(49, 1, 1)]);

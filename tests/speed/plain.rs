@@ -1,4 +1,5 @@
-//! The bench's own method, written by hand in plain Rust: what the proved code is measured against. Same words, same tables by value, same order of tests.
+//! The bench's own method, written by hand in plain Rust: what the proved code is measured against. Same words, same walk over the blocks, same counts of ones,
+//! same order of tests.
 
 #[derive(Clone, Copy)]
 pub struct Head {
@@ -81,35 +82,24 @@ fn holds(word: u64, i: usize) -> u64 {
     (word & 1 << i).count_ones() as u64
 }
 
-/// In how many blocks two objects share a side.
-fn company(words: &[u64], b: usize, v: usize) -> Table {
-    let mut table = [[0; 50]; 50];
-    for i in 0..v {
-        for j in 0..v {
-            let mut sum = 0;
-            for k in 0..b {
-                sum += together(words[2 * k], i, j) + together(words[2 * k + 1], i, j);
-            }
-            table[i][j] = sum;
-        }
-    }
-    table
+/// The objects of a word, lowest first.
+fn objects(mut word: u64) -> impl Iterator<Item = usize> {
+    std::iter::from_fn(move || {
+        (word != 0).then(|| {
+            let i = word.trailing_zeros() as usize;
+            word &= word - 1;
+            i
+        })
+    })
 }
 
-/// In how many blocks two objects stand on opposite sides.
-fn opposition(words: &[u64], b: usize, v: usize) -> Table {
-    let mut table = [[0; 50]; 50];
-    for i in 0..v {
-        for j in 0..v {
-            let mut sum = 0;
-            for k in 0..b {
-                let (left, right) = (words[2 * k], words[2 * k + 1]);
-                sum += holds(left, i) * holds(right, j) + holds(right, i) * holds(left, j);
-            }
-            table[i][j] = sum;
-        }
+/// Adds a block to the rows of the objects of one side: their company on it, and their opposition to the other side.
+fn add_side(own: u64, other: u64, company: &mut Table, opposition: &mut Table) {
+    for i in objects(own) {
+        let (together_row, against_row) = (&mut company[i], &mut opposition[i]);
+        objects(own).for_each(|j| together_row[j] += together(own, i, j));
+        objects(other).for_each(|j| against_row[j] += holds(own, i) * holds(other, j));
     }
-    table
 }
 
 fn even(company: &Table, opposition: &Table, v: usize) -> bool {
@@ -126,8 +116,11 @@ fn even(company: &Table, opposition: &Table, v: usize) -> bool {
 /// The parameters of developed words that are balanced.
 fn judge_words(h: Head, words: &[u64]) -> Result<Parameters, Refusal> {
     let (v, b) = (h.n + h.flag, h.m * h.n);
-    let company = company(words, b, v);
-    let opposition = opposition(words, b, v);
+    let (mut company, mut opposition): (Table, Table) = ([[0; 50]; 50], [[0; 50]; 50]);
+    for block in words[..2 * b].chunks_exact(2) {
+        add_side(block[0], block[1], &mut company, &mut opposition);
+        add_side(block[1], block[0], &mut company, &mut opposition);
+    }
     if !even(&company, &opposition, v) {
         return Err((6, 0));
     }
@@ -274,36 +267,4 @@ pub fn solve(bytes: &[u8], words: &mut [u64], values: &mut [i64], deviations: &m
     let hundredths = if freedom == 0 { 0 } else { largest(q, vbeta * freedom) };
     let spread = if freedom == 0 { None } else { Some(hundredths as f64 / 100.0) };
     Ok(Solved { parameters, denominator: members * vbeta, q, vbeta, freedom, hundredths, spread })
-}
-
-/// The judgement by another method, to say what it would save: one walk of the blocks, and in it only the objects of the block.
-pub fn judge_in_one_walk(h: Head, blocks: &[u8]) -> Result<Parameters, Refusal> {
-    let mut words = [0; 2600];
-    develop(h, blocks, &mut words)?;
-    let (v, b) = (h.n + h.flag, h.m * h.n);
-    let (mut company, mut opposition): (Table, Table) = ([[0; 50]; 50], [[0; 50]; 50]);
-    for block in words[..2 * b].chunks_exact(2) {
-        for (own, other) in [(block[0], block[1]), (block[1], block[0])] {
-            for i in ones(own) {
-                ones(own).for_each(|j| company[i][j] += 1);
-                ones(other).for_each(|j| opposition[i][j] += 1);
-            }
-        }
-    }
-    if !even(&company, &opposition, v) {
-        return Err((6, 0));
-    }
-    let (l1, l2) = (company[1][0], opposition[1][0]);
-    Ok(Parameters { v: v as u64, b: b as u64, r: (l2 - l1) * (v as u64 - 1), p: words[0].count_ones() as u64, l1, l2 })
-}
-
-/// The objects of a word.
-fn ones(mut word: u64) -> impl Iterator<Item = usize> {
-    std::iter::from_fn(move || {
-        (word != 0).then(|| {
-            let i = word.trailing_zeros() as usize;
-            word &= word - 1;
-            i
-        })
-    })
 }

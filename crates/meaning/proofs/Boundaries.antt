@@ -56,10 +56,11 @@ use Rattle.meaning.specs.Calls.{
   analyseVerdict,
   solvedUnder,
 }
-use Rattle.meaning.specs.File.{big, twos, numbersAt, fieldVerdict, fieldAt, fieldSays, fieldStart, fieldNext, fields, readVerdict, solveVerdict, readAnswer, headOf, blocksOf, readingsOf}
+use Rattle.meaning.specs.File.{big, twos, numbersAt, fieldVerdict, fieldAt, fieldSays, fieldStart, fieldNext, fields, readVerdict, solveVerdict, readAnswer, headOf, blocksOf, readingsOf, setOf, sumOf}
+use Rattle.meaning.specs.Writing.{bytesOf, wrapped, readingsBody, fileOf, writeVerdict, writtenAnswer, writtenAfter}
 use Rattle.meaning.specs.Text.{ascii, digits, spaced, signedText, each, textOf, benchText, listedAnswer, listedAfter}
 use Rattle.meaning.proofs.Rows.{Row, lists, refuses, spreads, publishes, holding, counting, floats, head, every}
-use Rattle.meaning.proofs.Examples.{fileA}
+use Rattle.meaning.proofs.Examples.{fileA, fileE}
 
 -- three objects, one initial block {0},{1}: balanced, with b = 3
 abbrev three : Head
@@ -411,11 +412,58 @@ listingRows =
     ∷ refuses (listedAnswer [] 11 .verdict) 10 0
     ∷ []
 
+-- ---- writing
+-- a file written again from what it holds
+abbrev rewritten : List ℕ → List ℕ
+rewritten s = fileOf (headOf s) (blocksOf s) (readingsOf s) (setOf s) (sumOf s)
+
+-- the readings of example A
+abbrev ysA : List ℤ
+ysA = pos 11 ∷ negsuc 2 ∷ pos 4 ∷ pos 1 ∷ negsuc 7 ∷ []
+
+-- the smallest job as it is written: three objects, {0},{1}, all restrained, M -2, readings 4, -3, 2
+abbrev fileThree : List ℕ
+fileThree =
+    1 ∷ 0 ∷ 4 ∷ 3 ∷ 0 ∷ 1 ∷ 1
+    ∷ 2 ∷ 0 ∷ 2 ∷ 0 ∷ 1
+    ∷ 3 ∷ 0 ∷ 16 ∷ 0 ∷ 0 ∷ 0 ∷ 0 ∷ 0 ∷ 0 ∷ 0 ∷ 7 ∷ 255 ∷ 255 ∷ 255 ∷ 255 ∷ 255 ∷ 255 ∷ 255 ∷ 254
+    ∷ 4 ∷ 0 ∷ 12 ∷ 0 ∷ 0 ∷ 0 ∷ 4 ∷ 255 ∷ 255 ∷ 255 ∷ 253 ∷ 0 ∷ 0 ∷ 0 ∷ 2 ∷ []
+
+abbrev writingRows : List Row
+writingRows =
+    holding (fileOf (head 5 0 2 1) (1 ∷ 4 ∷ 2 ∷ 3 ∷ []) ysA 3 (pos 7)) fileA
+    ∷ holding (fileOf three pair ys 7 (negsuc 1)) fileThree
+    ∷ holding (rewritten fileA) fileA
+    ∷ holding (rewritten fileE) fileE
+    ∷ holding (rewritten fileInfinity) fileInfinity
+    ∷ holding (rewritten fileNone) fileNone
+    ∷ holding (rewritten fileZero) fileZero
+    ∷ holding (bytesOf 2 1280 ++ bytesOf 2 65535 ++ bytesOf 3 256) (5 ∷ 0 ∷ 255 ∷ 255 ∷ 0 ∷ 1 ∷ 0 ∷ [])
+    ∷ holding
+    (wrapped 32 (pos 2147483647) ∷ wrapped 32 (negsuc 2147483647) ∷ wrapped 32 (negsuc 0) ∷ wrapped 64 (pos 9223372036854775807) ∷ wrapped 64 (negsuc 9223372036854775807) ∷ wrapped 64 (negsuc 0) ∷ [])
+    (2147483647 ∷ 2147483648 ∷ 4294967295 ∷ 9223372036854775807 ∷ 9223372036854775808 ∷ 18446744073709551615 ∷ [])
+    ∷ refuses (writeVerdict (head 2 0 1 1) (0 ∷ []) ys 7 (pos 0) 0) 4 0
+    ∷ refuses (writeVerdict three (0 ∷ 3 ∷ 0 ∷ []) ys 7 (pos 0) 0) 3 0
+    ∷ refuses (writeVerdict three (0 ∷ 3 ∷ []) ys4 7 (pos 0) 0) 3 0
+    ∷ refuses (writeVerdict four (0 ∷ 0 ∷ []) ys4 0 (pos 0) 0) 5 1
+    ∷ refuses (writeVerdict four pair far4 0 (pos 0) 0) 6 0
+    ∷ refuses (writeVerdict three pair far 8 (pos 0) 0) 7 0
+    ∷ refuses (writeVerdict three pair far 7 (pos 0) 0) 8 1
+    ∷ refuses (writeVerdict three pair ys 7 (negsuc 1) 45) 10 0
+    ∷ refuses (writeVerdict three pair ys 7 (negsuc 1) 46) 0 0
+    ∷ refuses (writeVerdict three pair ys 7 (negsuc 1) 47) 0 0
+    ∷ holding (writtenAnswer three pair ys 7 (negsuc 1) 47 .length ∷ writtenAnswer three pair ys 7 (negsuc 1) 45 .length ∷ writtenAnswer three pair far 7 (negsuc 1) 47 .length ∷ []) (46 ∷ 0 ∷ 0 ∷ [])
+    ∷ refuses (writtenAnswer three pair far 7 (negsuc 1) 47 .verdict) 8 1
+    ∷ holding (writtenAfter three pair ys 7 (negsuc 1) (replicate 48 77)) (fileThree ++ (77 ∷ 77 ∷ []))
+    ∷ holding (writtenAfter three pair ys 7 (negsuc 1) (replicate 45 77)) (replicate 45 77)
+    ∷ holding (writtenAfter four pair ys4 7 (negsuc 1) (replicate 60 77)) (replicate 60 77)
+    ∷ []
+
 unfoldable pub table : List Row
-table = sizeRows ++ designRows ++ callRows ++ heldRows ++ numberRows ++ fileRows ++ listingRows
+table = sizeRows ++ designRows ++ callRows ++ heldRows ++ numberRows ++ fileRows ++ writingRows ++ listingRows
 
 pub boundaries : every table ≡ true
-unfolding table listingRows sized occ plus left right company opposition balanced beta total members restrained numeratorOf denominatorOf along difference deviationOf squaredReadings squaredTotals qOf root spreadHundredths spreadHundredthsOf published offender farReading word wordAt tableOf designVerdict developVerdict initialVerdict judgeVerdict slices contents jobVerdict totalVerdict valuesVerdict valueVerdict readingsVerdict deviationsVerdict deviationVerdict squaredReadingsVerdict squaredTotalsVerdict rooms analyseVerdict big numbersAt fieldVerdict fieldAt fields readVerdict solveVerdict ascii digits each textOf benchText over sum sumℕ firstFrom round
+unfolding table listingRows sized occ plus left right company opposition balanced beta total members restrained numeratorOf denominatorOf along difference deviationOf squaredReadings squaredTotals qOf root spreadHundredths spreadHundredthsOf published offender farReading word wordAt tableOf designVerdict developVerdict initialVerdict judgeVerdict slices contents jobVerdict totalVerdict valuesVerdict valueVerdict readingsVerdict deviationsVerdict deviationVerdict squaredReadingsVerdict squaredTotalsVerdict rooms analyseVerdict big numbersAt fieldVerdict fieldAt fields readVerdict solveVerdict bytesOf readingsBody fileOf writeVerdict ascii digits each textOf benchText over sum sumℕ firstFrom round
 boundaries = refl
 
 -- ---- how near an f64 is, and any set of values

@@ -29,6 +29,10 @@ unfoldable pub numbersAt : List ℕ → ℕ → ℕ → List ℤ
 numbersAt s at zero = []
 numbersAt s at (suc c) = twos 32 (big s at 4) ∷ numbersAt s (at + 4) c
 
+-- the length of the body of the field with this tag, which reading and writing share: 1 the sizes, 2 the initial blocks, 3 the restraint, 4 the readings
+abbrev pub bodyLength : Head → ℕ → ℕ
+bodyLength h tag = cond (eqb tag 1) 4 (cond (eqb tag 2) (listLength h) (cond (eqb tag 3) 16 (4 * blocks h)))
+
 -- ---- a field
 
 -- the tests of a field at a place: its three-byte start, its tag, its length, its body
@@ -72,13 +76,13 @@ abbrev pub secondAt : ℕ
 secondAt = 7
 
 abbrev pub thirdAt : List ℕ → ℕ
-thirdAt s = secondAt + 3 + listLength (headOf s)
+thirdAt s = secondAt + 3 + bodyLength (headOf s) 2
 
 abbrev pub fourthAt : List ℕ → ℕ
-fourthAt s = thirdAt s + 3 + 16
+fourthAt s = thirdAt s + 3 + bodyLength (headOf s) 3
 
 abbrev pub endAt : List ℕ → ℕ
-endAt s = fourthAt s + 3 + 4 * blocks (headOf s)
+endAt s = fourthAt s + 3 + bodyLength (headOf s) 4
 
 -- where the initial blocks and the readings start
 abbrev pub blocksAt : ℕ
@@ -89,7 +93,7 @@ readingsAt s = fourthAt s + 3
 
 -- the initial blocks, the restraint set, its accepted sum M, and the readings
 abbrev pub blocksOf : List ℕ → List ℕ
-blocksOf s = take (listLength (headOf s)) (drop blocksAt s)
+blocksOf s = take (bodyLength (headOf s) 2) (drop blocksAt s)
 
 abbrev pub setOf : List ℕ → ℕ
 setOf s = big s (thirdAt s + 3) 8
@@ -105,10 +109,10 @@ readingsOf s = numbersAt s (readingsAt s) (blocks (headOf s))
 -- the four fields, 4 right after the first, 9 after the fourth
 unfoldable pub fields : List ℕ → Verdict
 fields s =
-    fieldVerdict s 0 1 4 ⨾ sizes (headOf s)
-    ⨾ fieldVerdict s secondAt 2 (listLength (headOf s))
-    ⨾ fieldVerdict s (thirdAt s) 3 16
-    ⨾ fieldVerdict s (fourthAt s) 4 (4 * blocks (headOf s))
+    fieldVerdict s 0 1 (bodyLength (headOf s) 1) ⨾ sizes (headOf s)
+    ⨾ fieldVerdict s secondAt 2 (bodyLength (headOf s) 2)
+    ⨾ fieldVerdict s (thirdAt s) 3 (bodyLength (headOf s) 3)
+    ⨾ fieldVerdict s (fourthAt s) 4 (bodyLength (headOf s) 4)
     ⨾ test (eqb (endAt s) (length s)) 9 (endAt s)
 
 -- a direct call's refusal of what a file holds, moved to its place in the file: 5 to that byte, 7 to the field's start, 8 to the reading's first byte

@@ -6,4 +6,5 @@ pub mod Fractions
 pub mod Refusals
 pub mod Calls
 pub mod File
+pub mod Writing
 pub mod Text

@@ -108,6 +108,12 @@ pub struct JobRead {
     pub sum: i64,
 }
 
+// The answer of a call that writes a job file: how many bytes it wrote.
+pub struct JobWritten {
+    pub verdict: Verdict,
+    pub length: usize,
+}
+
 // The answer of a call that writes the listing: how many bytes it wrote.
 pub struct Listed {
     pub verdict: Verdict,

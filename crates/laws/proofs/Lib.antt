@@ -12,3 +12,5 @@ pub mod Rounding
 pub mod Sizes
 pub mod Fractions
 pub mod Files
+pub mod Bytes
+pub mod Writing

@@ -1,0 +1,61 @@
+-- `writing::write` meets its contract: refused, nothing is written; accepted, the file stands in front. Assumes nothing.
+use mathlib.Core.Path.{_≡_, sym, _∙_}
+use native.Mathlib.Omega.{arith}
+use borrow.Author.Needs.{needs}
+use denote.Ref.{now}
+use lib.ListN.{length}
+use mir.Facts.{toZ-ofZ}
+use Rattle.meaning.specs.declared.Verdict.{Verdict}
+use Rattle.meaning.specs.Refusals.{accepted}
+use Rattle.meaning.specs.Writing.{writeVerdict}
+use Rattle.laws.specs.Fits.{Fits}
+use Rattle.writing.proofs.Answers.{unwritten, sizes-fit, written}
+use Rattle.writing.proofs.write.Statement.{statement}
+use Rattle.writing.proofs.write.Tie as tie
+
+-- the verdict of the call
+module _ (s : tie.Start) where
+  abbrev verdict : Verdict
+  verdict = writeVerdict (s .args .head) (now (s .args .blocks)) (now (s .args .readings)) (s .args .set) (s .args .sum) (length (now (s .args .out)))
+
+-- what the tests say of it
+module _ (c : tie.After-write-refusal) where
+  told : c .write-refusal .result ≡ verdict (c .before .before .before)
+  unfolding writeVerdict
+  told = rw (toZ-ofZ (c .before .before .before .fits .sum)) at (c .write-refusal .ensures)
+
+-- past them
+passed : (c : tie.After-enum-told) → verdict (c .before .before .before .before .before) ≡ accepted
+passed c = sym (told (c .before .before)) ∙ c .enum-told .given .1
+
+-- so the sizes fit
+fits : (c : tie.After-enum-told) → Fits (c .before .before .before .before .before .args .head)
+fits c =
+    let a = c .before .before .before .before .before .args in
+    sizes-fit (a .head) (now (a .blocks)) (now (a .readings)) (a .set) (a .sum) (now (a .out)) (passed c)
+
+returns : tie.Need-returns
+returns c =
+    let a = c .before .before .before .before .before .before .args in
+    let w = unwritten (a .head) (now (a .blocks)) (now (a .readings)) (a .set) (a .sum) (now (a .out)) _ _ (sym (told (c .before .before .before)) ∙ c .before .number .given .1) in
+    (search needs, search needs)
+
+returns-2 : tie.Need-returns-2
+returns-2 c =
+    let put = c .before .before in
+    let s = put .before .before .before .before .before .before .before in
+    let a = s .args in
+    let w = written (a .head) (now (a .blocks)) (now (a .readings)) (a .set) (a .sum) (now (a .out)) (passed (put .before .before)) (rw (toZ-ofZ (s .fits .sum)) at (put .put-file .ensures)) (omega arith) in
+    (search needs, search needs)
+
+pub write-spec : {M : Type 1} → statement M
+write-spec =
+    tie.close
+    (tie.spec
+    (λ c κs. tt)
+    (λ c. search needs)
+    returns
+    (λ c. search needs)
+    (λ c κs. fits (c .before))
+    (λ c. search needs)
+    returns-2)

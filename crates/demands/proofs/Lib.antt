@@ -1,4 +1,6 @@
--- The one page of demands, and the small laws that only it needs.
+-- The one page of demands, the page on writing, and the small laws that only they need.
 pub mod Order
 pub mod Parts
 pub mod Demands
+pub mod Files
+pub mod Writing

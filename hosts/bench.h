@@ -1,4 +1,4 @@
-/* The mass bench for C: three calls of target/staticlib/libapi.a, which `rt staticlib api` writes.
+/* The mass bench for C: four calls of target/staticlib/libapi.a, which `rt staticlib api` writes.
  *
  * Each call takes any input, ends, and hands back a refusal number, 0 where it accepts. The rest of its answer is laid into
  * `answer`, slot by slot, as far as it is long; later slots stay. On a refusal slot 0 is the place and every other slot is 0.
@@ -16,7 +16,8 @@
  *   8 | a reading is out of range                                                             | its first byte
  *   9 | bytes follow the fourth field                                                         | first such byte
  *  10 | a lent buffer is too short                                                            | 0
- * For bench_judge, which takes no file, the place is the byte's index for 5, and 0 otherwise.
+ * For bench_judge and bench_write, which take no file, the place is the object's index for 5, the reading's for 8, and 0 otherwise;
+ * 3 is given there for a list of the wrong length.
  */
 #ifndef BENCH_H
 #define BENCH_H
@@ -25,7 +26,7 @@
 #include <stdint.h>
 
 /* Room that is enough for every job. */
-enum { BENCH_WORDS = 2600, BENCH_VALUES = 50, BENCH_DEVIATIONS = 1300, BENCH_TEXT = 65536 };
+enum { BENCH_WORDS = 2600, BENCH_VALUES = 50, BENCH_DEVIATIONS = 1300, BENCH_FILE = 6584, BENCH_TEXT = 65536 };
 
 /* The slots of `answer`. */
 enum {
@@ -44,6 +45,8 @@ enum {
     BENCH_HUNDREDTHS = 11, /* the spread in whole hundredths of a count */
     BENCH_HAS_SPREAD = 12, /* 1 where there is a spread, 0 where there is no degree of freedom */
     BENCH_SOLVE_SLOTS = 13,
+    BENCH_WRITTEN = 1,     /* bench_write: the bytes written, after BENCH_PLACE */
+    BENCH_WRITE_SLOTS = 2,
     BENCH_LENGTH = 0,      /* bench_listing: the bytes written */
     BENCH_LISTING_SLOTS = 1
 };
@@ -63,6 +66,17 @@ uint8_t bench_solve(const uint8_t *bytes, size_t bytes_length,
                     int64_t *deviations, size_t deviations_length,
                     uint64_t *answer, size_t answer_length,
                     double *spread, size_t spread_length);
+
+/* Writes the file of a job to the front of `out`, which takes 32 + 2pm + 4b bytes of it, where b = m·n; later bytes stay, and on a
+ * refusal all. The design as for bench_judge; `set`: bit i is object i, the fixed object being n; `sum`: its accepted sum;
+ * `readings`: b of them, all shifts of the first initial block, then of the second. Reading the file gives back the job, and no
+ * other bytes do. */
+uint8_t bench_write(size_t n, size_t flag, size_t p, size_t m,
+                    const uint8_t *blocks, size_t blocks_length,
+                    uint64_t set, int64_t sum,
+                    const int32_t *readings, size_t readings_length,
+                    uint8_t *out, size_t out_length,
+                    uint64_t *answer, size_t answer_length);
 
 /* Writes the text that the bench prints for a job file to the front of `out`: its listing, or the line of its refusal.
  * The number handed back is 0, or 10 where `out` is too short, and then nothing is written; BENCH_TEXT bytes are always enough. */

@@ -43,11 +43,32 @@ const TO_BYTES: [(&str, fn(&mut Vec<u8>, &[usize; 5], &mut Seed)); 12] = [
 
 /// Two of three seeded jobs are damaged, the kinds of damage in turn; half of these twice or three times, so that the order shows.
 pub fn seeded(seed: u64, index: u64) -> Trial {
+    let Parts { mut about, draft, chosen, mut source } = parts(seed, index);
+    let mut bytes = draft.file();
+    let borders = borders(&draft);
+    for (name, harm) in chosen.iter().filter_map(|kind| kind.checked_sub(TO_PARTS.len())).map(|kind| &TO_BYTES[kind]) {
+        about = format!("{about}, {name}");
+        if bytes.len() == borders[4] {
+            harm(&mut bytes, &borders, &mut source);
+        }
+    }
+    Trial { about, bytes }
+}
+
+/// The parts of a seeded job, with the damage that is done to parts; the rest of what was chosen is done to its bytes.
+pub struct Parts {
+    pub about: String,
+    pub draft: Draft,
+    chosen: Vec<usize>,
+    source: Seed,
+}
+
+pub fn parts(seed: u64, index: u64) -> Parts {
     let mut source = Seed::new(seed, index);
     let (design, mut draft) = whole(&mut source);
     let mut about = format!("{} n {} flag {} p {} m {}", design.kind, draft.n, draft.flag, draft.p, draft.m);
     if index % 3 == 0 {
-        return Trial { about, bytes: draft.file() };
+        return Parts { about, draft, chosen: Vec::new(), source };
     }
     let kinds = TO_PARTS.len() + TO_BYTES.len();
     let mut chosen = vec![(index - index / 3) as usize % kinds];
@@ -61,15 +82,7 @@ pub fn seeded(seed: u64, index: u64) -> Trial {
         about = format!("{about}, {name}");
         harm(&mut draft, &mut source);
     }
-    let mut bytes = draft.file();
-    let borders = borders(&draft);
-    for (name, harm) in chosen.iter().filter_map(|kind| kind.checked_sub(TO_PARTS.len())).map(|kind| &TO_BYTES[kind]) {
-        about = format!("{about}, {name}");
-        if bytes.len() == borders[4] {
-            harm(&mut bytes, &borders, &mut source);
-        }
-    }
-    Trial { about, bytes }
+    Parts { about, draft, chosen, source }
 }
 
 /// Where the four fields begin, and where the last ends.

@@ -12,6 +12,9 @@ use Rattle.api.proofs.bench_judge.Reads as judgeReads
 use Rattle.api.proofs.bench_solve as solve
 use Rattle.api.proofs.bench_solve.Kinds as solveKinds
 use Rattle.api.proofs.bench_solve.Reads as solveReads
+use Rattle.api.proofs.bench_write as write
+use Rattle.api.proofs.bench_write.Kinds as writeKinds
+use Rattle.api.proofs.bench_write.Reads as writeReads
 use Rattle.api.proofs.bench_listing as listing
 use Rattle.api.proofs.bench_listing.Kinds as listingKinds
 use Rattle.api.proofs.bench_listing.Reads as listingReads
@@ -34,6 +37,12 @@ module _ (κs : Lfts 6) (a : ArgsD solve.signature κs) (r q : ResD solve.signat
     p .1 .1 .1 .1 .0 ∙ sym (e .1 .1 .1 .1 .0),
     p .1 .1 .1 .1 .1 ∙ sym (e .1 .1 .1 .1 .1),
   )
+
+-- the same number, and the same file and answer after
+module _ (κs : Lfts 4) (a : ArgsD write.signature κs) (r q : ResD write.signature κs) (s t : AtExit (endedOf 4 writeKinds.ps writeKinds.r) κs) where
+  pub bench-write-determined : writeReads.Post κs a r s → writeReads.Post κs a q t
+      → (r ≡ q) × (now (s .1 .1 .1 .1 .1 .1 .1 .1 .0) ≡ now (t .1 .1 .1 .1 .1 .1 .1 .1 .0)) × (now (s .1 .1 .1 .1 .1 .1 .1 .1 .1 .0) ≡ now (t .1 .1 .1 .1 .1 .1 .1 .1 .1 .0))
+  bench-write-determined p e = (p .0 ∙ sym (e .0), p .1 .0 ∙ sym (e .1 .0), p .1 .1 ∙ sym (e .1 .1))
 
 -- the same number, and the same text and answer after
 module _ (κs : Lfts 3) (a : ArgsD listing.signature κs) (r q : ResD listing.signature κs) (s t : AtExit (endedOf 3 listingKinds.ps listingKinds.r) κs) where

@@ -5,6 +5,7 @@ use lib.ListN.{getD, length}
 use Rattle.algebra.specs.Buffers.{over}
 use Rattle.meaning.specs.declared.Parameters.{Parameters}
 use Rattle.meaning.specs.declared.Judged.{Judged}
+use Rattle.meaning.specs.declared.JobWritten.{JobWritten}
 use Rattle.meaning.specs.declared.Listed.{Listed}
 use Rattle.meaning.specs.declared.Solved.{Solved}
 use Rattle.meaning.specs.declared.Spread.{Spread}
@@ -35,6 +36,10 @@ solvedSlots s = let p = s .parameters in let t = s .spreading in
 -- what solving a file into rooms of these lengths answers
 abbrev pub solvedOf : List ℕ → ℕ → ℕ → ℕ → Solved
 solvedOf s words values deviations = solvedUnder (solveVerdict s words values deviations) (headOf s) (blocksOf s) (readingsOf s) (setOf s)
+
+-- a job that was written: place, the bytes written
+abbrev pub writtenSlots : JobWritten → List ℕ
+writtenSlots w = place (w .verdict) ∷ w .length ∷ []
 
 -- a listing: the bytes written
 abbrev pub listedSlots : Listed → List ℕ

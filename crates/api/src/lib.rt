@@ -1,6 +1,7 @@
 // The bench for programs in C and Rust. Each exported function is one call of the bench: its refusal number is handed back, 0 where it accepts, and the rest of its
 // answer is laid into lent slots, as far as there are slots. hosts/bench.h says what stands in each.
 use meaning::Head;
+use meaning::JobWritten;
 use meaning::Judged;
 use meaning::Listed;
 use meaning::Solved;
@@ -11,10 +12,11 @@ ghost use lib.ListN.{set, length};
 ghost use Rattle.algebra.specs.Buffers.{over};
 ghost use Rattle.meaning.specs.Calls.{judged, judgeVerdict, wordsUnder, valuesUnder, deviationsUnder};
 ghost use Rattle.meaning.specs.File.{headOf, blocksOf, readingsOf, setOf, sumOf, solveVerdict};
+ghost use Rattle.meaning.specs.Writing.{writtenAnswer, writtenAfter};
 ghost use Rattle.meaning.specs.Publishing.{spreadValue};
 ghost use Rattle.meaning.specs.Text.{listedAnswer, listedAfter};
 ghost use Rattle.meaning.specs.Refusals.{number, place};
-ghost use Rattle.api.specs.Slots.{laid, judgedSlots, solvedOf, solvedSlots, hasSpread, listedSlots};
+ghost use Rattle.api.specs.Slots.{laid, judgedSlots, solvedOf, solvedSlots, hasSpread, writtenSlots, listedSlots};
 
 // Judges a design: n residues, flag, p objects a side, m initial blocks.
 #[no_mangle]
@@ -64,6 +66,32 @@ pub extern "C" fn bench_solve(
     let found = spreading.spread;
     put_spread(found, spread);
     let verdict = solved.verdict;
+    number(verdict)
+}
+
+// Writes the file of a job to the front of `out`: its head as four numbers, its blocks, its restraint set with the accepted sum, its readings.
+#[no_mangle]
+pub extern "C" fn bench_write(
+    n: usize,
+    flag: usize,
+    p: usize,
+    m: usize,
+    blocks: &[u8],
+    set: u64,
+    sum: i64,
+    readings: &[i32],
+    out: &mut [u8],
+    answer: &mut [u64],
+) -> u8
+    ensures { λ r. ⌜ r ≡ number (writtenAnswer (record { n = n; flag = flag; p = p; m = m }) (now (blocks .entry)) (now (readings .entry)) set sum (length (now (out .entry))) .verdict) ⌝ }
+    ensures { λ _. ⌜ now (out .exit) ≡ writtenAfter (record { n = n; flag = flag; p = p; m = m }) (now (blocks .entry)) (now (readings .entry)) set sum (now (out .entry)) ⌝ }
+    ensures { λ _. ⌜ now (answer .exit) ≡ laid (writtenSlots (writtenAnswer (record { n = n; flag = flag; p = p; m = m }) (now (blocks .entry)) (now (readings .entry)) set sum (length (now (out .entry))))) (now (answer .entry)) ⌝ }
+{
+    let sizes = Head { n, flag, p, m };
+    let written = writing::write(sizes, blocks, set, sum, readings, out);
+    let slots = written_slots(written);
+    lay(&slots, answer);
+    let verdict = written.verdict;
     number(verdict)
 }
 
@@ -121,6 +149,14 @@ fn solved_slots(solved: Solved) -> [u64; 13]
         spreading.hundredths,
         has_spread(spread),
     ]
+}
+
+// The slots of a job that was written.
+fn written_slots(written: JobWritten) -> [u64; 2]
+    ensures { λ r. ⌜ r ≡ writtenSlots written ⌝ }
+{
+    let verdict = written.verdict;
+    [place(verdict), written.length as u64]
 }
 
 // The slot of a listing.

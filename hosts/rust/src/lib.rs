@@ -20,12 +20,31 @@ mod ffi {
             spread: *mut f64,
             spread_length: usize,
         ) -> u8;
+        pub fn bench_write(
+            n: usize,
+            flag: usize,
+            p: usize,
+            m: usize,
+            blocks: *const u8,
+            blocks_length: usize,
+            set: u64,
+            sum: i64,
+            readings: *const i32,
+            readings_length: usize,
+            out: *mut u8,
+            out_length: usize,
+            answer: *mut u64,
+            answer_length: usize,
+        ) -> u8;
         pub fn bench_listing(bytes: *const u8, bytes_length: usize, out: *mut u8, out_length: usize, answer: *mut u64, answer_length: usize) -> u8;
     }
 }
 
 /// Room that is enough for every job: words, values, deviations, bytes of text.
 const ROOM: (usize, usize, usize, usize) = (2600, 50, 1300, 65536);
+
+/// The bytes of the longest job file.
+const LONGEST_FILE: usize = 6584;
 
 /// Why a call refuses, by the number of the request's table.
 #[derive(Debug, Clone, Copy, PartialEq, Eq)]
@@ -158,6 +177,41 @@ pub fn solve_into(bytes: &[u8], words: &mut [u64], values: &mut [i64], deviation
         freedom: answer[10],
         spread: (answer[12] == 1).then_some(Spread { hundredths: answer[11], value: spread[0] }),
     })
+}
+
+/// Writes the file of a job: its design as [`judge`] takes it, the restraint set (bit i is object i) with its accepted sum, and the readings in development order.
+/// A job has one file: what is read from it is the job again, and no other bytes read as the same job.
+pub fn write(head: Head, blocks: &[u8], set: u64, sum: i64, readings: &[i32]) -> Result<Vec<u8>, Refusal> {
+    let mut file = vec![0; LONGEST_FILE];
+    let length = write_into(head, blocks, set, sum, readings, &mut file)?;
+    file.truncate(length);
+    Ok(file)
+}
+
+/// Writes the file of a job to the front of lent room, of at least 32 + 2pm + 4b bytes, and tells how many it wrote. A refusal leaves the room as it was; later bytes stay.
+pub fn write_into(head: Head, blocks: &[u8], set: u64, sum: i64, readings: &[i32], out: &mut [u8]) -> Result<usize, Refusal> {
+    let mut answer = [0; 2];
+    // Sound: as in `judge`; the two slices that are written do not overlap.
+    let number = unsafe {
+        ffi::bench_write(
+            head.n,
+            head.fixed as usize,
+            head.p,
+            head.m,
+            blocks.as_ptr(),
+            blocks.len(),
+            set,
+            sum,
+            readings.as_ptr(),
+            readings.len(),
+            out.as_mut_ptr(),
+            out.len(),
+            answer.as_mut_ptr(),
+            answer.len(),
+        )
+    };
+    accepted(number, &answer)?;
+    Ok(answer[1] as usize)
 }
 
 /// The text that the bench prints for a job file: its listing, or the line of its refusal.

@@ -1,5 +1,5 @@
 //! The calls on the examples of the repository.
-use mass_bench::{judge, listing, solve, solve_into, Head, Parameters, Reason, Refusal, Spread};
+use mass_bench::{judge, listing, solve, solve_into, write, write_into, Head, Parameters, Reason, Refusal, Spread};
 
 const HERE: &str = match option_env!("CARGO_MANIFEST_DIR") {
     Some(folder) => folder,
@@ -62,6 +62,42 @@ fn a_job_is_refused_at_its_place() {
     let refusal = solve(&example("K-byte-added.job")).unwrap_err();
     assert_eq!(refusal, Refusal { reason: Reason::BytesFollow, place: 56 });
     assert_eq!(refusal.to_string(), "refused 9 56");
+}
+
+const A: Head = Head { n: 5, fixed: false, p: 2, m: 1 };
+const BLOCKS_OF_A: [u8; 4] = [1, 4, 2, 3];
+const READINGS_OF_A: [i32; 5] = [11, -3, 4, 1, -8];
+
+#[test]
+fn example_a_is_written() {
+    assert_eq!(write(A, &BLOCKS_OF_A, 3, 7, &READINGS_OF_A), Ok(example("A.job")));
+}
+
+#[test]
+fn what_is_written_reads_as_the_job() {
+    let file = write(A, &BLOCKS_OF_A, 0b10001, -1_000_000_000, &[200_000, -200_000, 0, 1, -1]).unwrap();
+    assert_eq!((file.len(), &file[25..33]), (56, &(-1_000_000_000i64).to_be_bytes()[..]));
+    assert_eq!(solve(&file).unwrap().solved.denominator, 10);
+}
+
+#[test]
+fn a_file_is_written_into_room_for_it() {
+    let mut room = [9; 60];
+    let none = Err(Refusal { reason: Reason::NoRoom, place: 0 });
+    assert_eq!((write_into(A, &BLOCKS_OF_A, 3, 7, &READINGS_OF_A, &mut room[..55]), room), (none, [9; 60]));
+    assert_eq!(write_into(A, &BLOCKS_OF_A, 3, 7, &READINGS_OF_A, &mut room), Ok(56));
+    assert_eq!((&room[..56], &room[56..]), (&example("A.job")[..], &[9; 4][..]));
+}
+
+#[test]
+fn jobs_that_are_read_as_bad_are_not_written() {
+    let refused = |reason, place| Err(Refusal { reason, place });
+    assert_eq!(write(Head { p: 3, ..A }, &BLOCKS_OF_A, 0, 7, &[]), refused(Reason::BrokenSize, 0));
+    assert_eq!(write(A, &[1, 4, 2, 9], 3, 7, &[]), refused(Reason::WrongLength, 0));
+    assert_eq!(write(A, &[1, 4, 2, 4], 0, 7, &READINGS_OF_A), refused(Reason::BadObject, 3));
+    assert_eq!(write(A, &[1, 4, 2, 0], 0, 7, &READINGS_OF_A), refused(Reason::Unbalanced, 0));
+    assert_eq!(write(A, &BLOCKS_OF_A, 32, 7, &[200_001; 5]), refused(Reason::BadRestraint, 0));
+    assert_eq!(write(A, &BLOCKS_OF_A, 3, 7, &[0, 0, -200_001, 0, 200_001]), refused(Reason::BadReading, 2));
 }
 
 #[test]

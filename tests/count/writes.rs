@@ -1,0 +1,141 @@
+//! The files that the bench writes against those that the count writes, job by job.
+//!
+//! The count has its own writer and its own refusals; the bench is called through its crate for Rust. Built by `hosts/test`, which links the two:
+//!
+//!     writes SEED COUNT      COUNT seeded jobs by their parts, many of them damaged; then every stored file and, of the next seed, COUNT seeded ones:
+//!                            those that the count accepts, read and written again
+//!
+//! A job that the count accepts must be written byte for byte as the count writes it: into room of just its length, into longer room, whose later bytes stay,
+//! and not at all into room one byte short. A job that it refuses must be refused by the same number at the same place, and the room stays as it was.
+
+// The count's own program uses what this one does not.
+#![allow(dead_code)]
+
+mod balanced;
+mod damage;
+mod design;
+mod job;
+mod listing;
+mod papers;
+mod seed;
+mod solve;
+mod stored;
+
+use job::{Draft, Refusal};
+use mass_bench::{write_into, Head};
+use std::collections::BTreeMap;
+use std::process::ExitCode;
+
+fn main() -> ExitCode {
+    let numbers: Vec<u64> = std::env::args().skip(1).filter_map(|word| word.parse().ok()).collect();
+    let [seed, count] = numbers[..] else {
+        eprintln!("writes SEED COUNT");
+        return ExitCode::FAILURE;
+    };
+    let (mut alike, mut failed) = (BTreeMap::new(), 0);
+    let mut tell = |about: String, outcome: Result<String, String>| match outcome {
+        Ok(kind) => *alike.entry(kind).or_insert(0) += 1,
+        Err(failure) => {
+            failed += 1;
+            println!("{about}: {failure}");
+        }
+    };
+    let mut left_out = 0;
+    for index in 0..count {
+        let parts = damage::parts(seed, index);
+        // The crate's head says by a bool whether the fixed object takes part.
+        if parts.draft.flag <= 1 {
+            tell(format!("parts {seed} {index} ({})", parts.about), compared(&parts.draft));
+        } else {
+            left_out += 1;
+        }
+    }
+    let stored = stored::trials().into_iter().map(|trial| (trial.name, trial.bytes));
+    let seeded = (0..count).map(|index| damage::seeded(seed + 1, index)).map(|trial| (trial.about, trial.bytes));
+    for (about, bytes) in stored.chain(seeded) {
+        if let Some(draft) = parts_of(&bytes) {
+            tell(about, if draft.file() == bytes { compared(&draft) } else { Err("the count does not write it again".to_string()) });
+        }
+    }
+    let kinds: Vec<String> = alike.iter().map(|(kind, count)| format!("{count} {kind}")).collect();
+    println!("jobs: {}; left out for a flag above 1: {left_out}", kinds.join(", "));
+    println!("{} passed, {failed} failed", alike.values().sum::<u64>());
+    if failed == 0 {
+        ExitCode::SUCCESS
+    } else {
+        ExitCode::FAILURE
+    }
+}
+
+/// What both make of a job, `written` or `refused` with its number; where they differ, how.
+fn compared(draft: &Draft) -> Result<String, String> {
+    let file = draft.file();
+    match refusal(draft) {
+        None => {
+            for (room, expected) in [(file.len(), Ok(file.len())), (file.len() + 9, Ok(file.len())), (file.len() - 1, Err((10, 0)))] {
+                let (found, bytes) = written(draft, room);
+                let mut wanted = vec![UNTOUCHED; room];
+                if expected.is_ok() {
+                    wanted[..file.len()].copy_from_slice(&file);
+                }
+                same(&format!("room for {room} bytes"), (found, bytes), (expected, wanted))?;
+            }
+            Ok("written".to_string())
+        }
+        Some(Refusal { number, place }) => {
+            same("a refused job", written(draft, 7000), (Err((number, place as u64)), vec![UNTOUCHED; 7000]))?;
+            Ok(format!("refused {number}"))
+        }
+    }
+}
+
+/// What a lent room holds before a call.
+const UNTOUCHED: u8 = 0xA5;
+
+/// How many bytes were written, or the number and place of the refusal; and the room after.
+type Written = (Result<usize, (u8, u64)>, Vec<u8>);
+
+fn written(draft: &Draft, room: usize) -> Written {
+    let mut out = vec![UNTOUCHED; room];
+    let head = Head { n: draft.n.into(), fixed: draft.flag == 1, p: draft.p.into(), m: draft.m.into() };
+    let answer = write_into(head, &draft.objects, draft.restraint, draft.sum, &draft.readings, &mut out);
+    (answer.map_err(|refusal| (refusal.reason as u8, refusal.place)), out)
+}
+
+fn same(about: &str, found: Written, wanted: Written) -> Result<(), String> {
+    if found.0 != wanted.0 {
+        return Err(format!("{about}: the bench answers {:?}, the count {:?}", found.0, wanted.0));
+    }
+    match found.1.iter().zip(&wanted.1).position(|(found, wanted)| found != wanted) {
+        Some(place) => Err(format!("{about}: byte {place} is {}, the count's {}", found.1[place], wanted.1[place])),
+        None => Ok(()),
+    }
+}
+
+/// What a call that takes the parts themselves says of them: the refusal of their file, at the index of the object or of the reading, else at 0.
+/// The file of a draft has its four fields and nothing after them, so it is never refused by 1, 2 or 9.
+fn refusal(draft: &Draft) -> Option<Refusal> {
+    let Refusal { number, place } = job::read(&draft.file()).err()?;
+    assert!(![1, 2, 9].contains(&number), "a draft's file is whole");
+    let place = match number {
+        5 => place - 10,
+        8 => (place - 32 - draft.objects.len()) / 4,
+        _ => 0,
+    };
+    Some(Refusal { number, place })
+}
+
+/// The parts of a file that nothing refuses.
+fn parts_of(bytes: &[u8]) -> Option<Draft> {
+    let job = job::read(bytes).ok()?;
+    Some(Draft {
+        n: bytes[3],
+        flag: bytes[4],
+        p: bytes[5],
+        m: bytes[6],
+        objects: bytes[10..10 + 2 * job.head.p * job.head.m].to_vec(),
+        restraint: job.restraint.iter().map(|object| 1 << object).sum(),
+        sum: job.sum as i64,
+        readings: job.readings.iter().map(|reading| *reading as i32).collect(),
+    })
+}

@@ -1,3 +1,2 @@
--- What the exported calls rest on, and what their promises rule out.
-pub mod Laying
+-- What the promises of the exported calls rule out.
 pub mod Determined

@@ -1,2 +1,2 @@
--- What stands in the slots of an answer.
-pub mod Slots
+-- What a file that is solved answers.
+pub mod Solving

@@ -1,7 +1,5 @@
 -- `api::bench_write` meets its contract: number and slots are read off the answer that `write` gave, and the room is as it left it. Assumes nothing.
 use mathlib.Core.Path.{_≡_, ap, _∙_}
-use mathlib.Core.List.{List}
-use Prim.Native.Nat.{ℕ}
 use borrow.Author.Needs.{needs}
 use denote.Ref.{now}
 use lib.ListN.{length}
@@ -10,7 +8,7 @@ use Rattle.meaning.specs.declared.Head.{Head}
 use Rattle.meaning.specs.declared.JobWritten.{JobWritten}
 use Rattle.meaning.specs.Refusals.{number}
 use Rattle.meaning.specs.Writing.{writtenAnswer, writtenAfter}
-use Rattle.api.specs.Slots.{laid, writtenSlots}
+use Rattle.slots.specs.Slots.{laid, writtenSlots}
 use Rattle.api.proofs.bench_write.Statement.{statement}
 use Rattle.api.proofs.bench_write.Tie as tie
 
@@ -39,15 +37,12 @@ module _ (c : tie.After-write) where
 
 returns : tie.Need-returns
 returns c =
-    let write = c .before .before .before .before .before .before .before .before .before in
+    let write = c .before .before .before .before .before .before .before in
     let a = start write .args in
     let room = left write in (
       c .number .ensures ∙ ap (λ (w : JobWritten). number (w .verdict)) (given write),
-      (
-        search needs,
-        c .before .before .before .lay .ensures ∙ ap (λ (s : List ℕ). laid s (now (a .answer))) (c .before .before .before .before .before .before .«written-slots» .ensures ∙ ap writtenSlots (given write)),
-      ),
+      (search needs, c .before .before .before .lay-written .ensures ∙ ap (λ (w : JobWritten). laid (writtenSlots w) (now (a .answer))) (given write)),
     )
 
 pub bench-write-spec : {M : Type 1} → statement M
-bench-write-spec = tie.close (tie.spec (λ c κs. search needs) (λ c κs. search needs) (λ c. search needs) (λ c κs. search needs) (λ c κs. search needs) (λ c. search needs) (λ c. search needs) returns)
+bench-write-spec = tie.close (tie.spec (λ c κs. tt) (λ c κs. tt) (λ c κs. tt) (λ c. search needs) (λ c. search needs) returns)

@@ -1,4 +1,4 @@
--- The slots of each exported call, in their order. Assumes nothing.
+-- The slots of what each call hands back, in their order. Assumes nothing.
 use Prim.Native.Nat.{ℕ}
 use mathlib.Core.List.{List, [], _∷_}
 use lib.ListN.{getD, length}
@@ -12,8 +12,6 @@ use Rattle.meaning.specs.declared.Spread.{Spread}
 use Rattle.meaning.specs.declared.Spread.the-variants.{Of, None}
 use Rattle.meaning.specs.declared.Spreading.{Spreading}
 use Rattle.meaning.specs.Refusals.{place}
-use Rattle.meaning.specs.Calls.{solvedUnder}
-use Rattle.meaning.specs.File.{headOf, blocksOf, readingsOf, setOf, solveVerdict}
 
 -- a lent answer with the slots at its front; where it is shorter it takes the first ones, where it is longer the rest stays
 abbrev pub laid : List ℕ → List ℕ → List ℕ
@@ -32,10 +30,6 @@ hasSpread None = 0
 abbrev pub solvedSlots : Solved → List ℕ
 solvedSlots s = let p = s .parameters in let t = s .spreading in
     place (s .verdict) ∷ p .v ∷ p .b ∷ p .r ∷ p .p ∷ p .l1 ∷ p .l2 ∷ s .denominator ∷ t .q ∷ t .vbeta ∷ t .freedom ∷ t .hundredths ∷ hasSpread (t .spread) ∷ []
-
--- what solving a file into rooms of these lengths answers
-abbrev pub solvedOf : List ℕ → ℕ → ℕ → ℕ → Solved
-solvedOf s words values deviations = solvedUnder (solveVerdict s words values deviations) (headOf s) (blocksOf s) (readingsOf s) (setOf s)
 
 -- a job that was written: place, the bytes written
 abbrev pub writtenSlots : JobWritten → List ℕ

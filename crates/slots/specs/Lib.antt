@@ -1,0 +1,2 @@
+-- What stands in the slots of an answer.
+pub mod Slots

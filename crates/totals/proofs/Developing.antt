@@ -4,12 +4,13 @@
 --     laid-totals, laid-squares               what a room that was filled with the totals holds
 -- Assumes nothing.
 use mathlib.Core.Path.{_≡_, sym, ap, ap₂, _∙_, subst}
+use mathlib.Core.Bool.{Bool, true, false, cond}
 use mathlib.Core.List.{List}
-use Prim.Native.Nat.{ℕ, _+_, _*_, _/_, _%_, _≤_, _<_}
+use Prim.Native.Nat.{ℕ, _+_, _*_, _/_, _%_, _^_, _≤_, _<_}
 use native.Mathlib.Nat.{le-trans, le-of-eq}
 use native.Mathlib.Omega.{arith}
 use borrow.Author.Tests.{eq-eqb, ne-eqb, le-leb}
-use lib.Dec.{leb}
+use lib.Dec.{eqb, leb}
 use lib.ListN.{getD, length}
 use lib.IntN.{ℤ, pos, natAbs, _+ℤ_, _-ℤ_, _*ℤ_}
 use Rattle.algebra.specs.Buffers.{over}
@@ -22,12 +23,12 @@ use Rattle.meaning.specs.Analysis.{reading, sign, total, squaredTotals}
 use Rattle.meaning.specs.Refusals.{accepted, room}
 use Rattle.meaning.specs.Calls.{word, wordAt, developVerdict}
 use Rattle.laws.proofs.Chains.{Sound, Readings, accepts, test-yes, sound-accepted}
-use Rattle.laws.proofs.Clean.{block-once}
+use Rattle.laws.proofs.Clean.{left-objects, right-objects, block-once}
 use Rattle.words.specs.Bits.{bit}
 use Rattle.words.proofs.Bits.{bit-most}
-use Rattle.words.proofs.Sides.{bit-word}
+use Rattle.words.proofs.Sides.{bit-word, word-below}
 use Rattle.readings.proofs.Squares.{squares}
-use Rattle.totals.specs.Developed.{signIn, totalIn, Weighed}
+use Rattle.totals.specs.Developed.{signIn, totalIn, Weighed, Within}
 
 -- ---- over any words
 
@@ -62,6 +63,18 @@ module _ (words : List ℕ) (y : List ℤ) where
 -- the words hold the development of the design
 pub record Developed (h : Head) (d : List ℕ) (words : List ℕ) : Type 0 where
   pub at : (c : ℕ) → c < 2 * blocks h → getD words c 0 ≡ wordAt h d c
+
+-- no word of a development has an object at v or above
+word-within : (h : Head) (d : List ℕ) → Sound h d → (c : ℕ) → c < 2 * blocks h → wordAt h d c < 2 ^ objects h
+unfolding wordAt
+word-within h d s c b = by (eqb (c % 2) 0)
+  where
+    k : c / 2 < blocks h
+    k = omega arith
+
+    by : (t : Bool) → cond t (word (left h d (c / 2))) (word (right h d (c / 2))) < 2 ^ objects h
+    by true = word-below (objects h) (left h d (c / 2)) (λ x. omega (arith, block-once h d s (c / 2) k x)) (left-objects h d s (c / 2) k)
+    by false = word-below (objects h) (right h d (c / 2)) (λ x. omega (arith, block-once h d s (c / 2) k x)) (right-objects h d s (c / 2) k)
 
 module _ (h : Head) (d : List ℕ) (words : List ℕ) (s : Sound h d) (w : Developed h d words) where
   -- the left word of block k
@@ -103,6 +116,7 @@ pub record Laid (h : Head) (d : List ℕ) (y : List ℤ) (words : List ℕ) : Ty
   pub weighed : Weighed words y (blocks h)
   pub signs : (k i : ℕ) → k < blocks h → signIn words k i ≡ sign h d k i
   pub totals : (i : ℕ) → totalIn words y (blocks h) i ≡ total h d y i
+  pub within : Within words (blocks h) (objects h)
 
 -- words that were written over by the development are so
 pub laid : (h : Head) (d : List ℕ) (y : List ℤ) (l words : List ℕ) → Sound h d → Readings h y → 2 * blocks h ≤ length l → words ≡ over (2 * blocks h) (wordAt h d) l → Laid h d y words
@@ -115,6 +129,7 @@ laid h d y l words s r m e = record {
   };
   signs = sign-is h d words s at;
   totals = total-is h d words s at y;
+  within = record { below = λ c b. subst (λ (x : ℕ). x < 2 ^ objects h) (sym (at .at c b)) (word-within h d s c b) };
 }
   where
     at : Developed h d words

@@ -1,9 +1,11 @@
 -- Signs and totals as they stand in the words of a developed design. Assumes nothing.
-use Prim.Native.Nat.{ℕ, _+_, _*_, _≤_, _<_}
+use Prim.Native.Nat.{ℕ, _+_, _*_, _^_, _≤_, _<_}
+use mathlib.Core.Path.{_≡_}
 use mathlib.Core.List.{List}
 use lib.ListN.{getD, length}
-use lib.IntN.{ℤ, pos, _-ℤ_, _*ℤ_, natAbs}
+use lib.IntN.{ℤ, pos, _+ℤ_, _-ℤ_, _*ℤ_, natAbs}
 use Rattle.algebra.specs.Ranges.{sum}
+use Rattle.algebra.specs.Buffers.{over}
 use Rattle.meaning.specs.Analysis.{reading}
 use Rattle.words.specs.Bits.{bit}
 
@@ -21,3 +23,19 @@ pub record Weighed (words : List ℕ) (y : List ℤ) (b : ℕ) : Type 0 where
   pub words-long : 2 * b ≤ length words
   pub readings-long : b ≤ length y
   pub readings-most : (k : ℕ) → k < b → natAbs (reading y k) ≤ 200000
+
+-- every word of b blocks has its objects below v
+pub record Within (words : List ℕ) (b v : ℕ) : Type 0 where
+  pub below : (c : ℕ) → c < 2 * b → getD words c 0 < 2 ^ v
+
+-- every object of the word w has its place in a room of totals, and at most B stands there
+pub record Room (totals : List ℤ) (w B : ℕ) : Type 0 where
+  pub held : (i : ℕ) → bit w i ≡ 1 → (i < length totals) × (natAbs (getD totals i (pos 0)) ≤ B)
+
+-- a room of totals after y was added for every object of the word w
+unfoldable pub added : ℕ → ℤ → List ℤ → List ℤ
+added w y totals = over (length totals) (λ i. getD totals i (pos 0) +ℤ pos (bit w i) *ℤ y) totals
+
+-- and after the reading of block k was added for its left word and taken away for its right one
+abbrev pub blockAdded : List ℕ → List ℤ → ℕ → List ℤ → List ℤ
+blockAdded words y k totals = added (getD words (2 * k + 1) 0) (pos 0 -ℤ reading y k) (added (getD words (2 * k) 0) (reading y k) totals)

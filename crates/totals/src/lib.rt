@@ -7,17 +7,19 @@ use meaning::Verdict;
 use readings::blocks_refusal;
 use readings::no_sum;
 use readings::reach_refusal;
+use words::lowest;
+use words::without_lowest;
 ghost use mathlib.Core.Path.{_≡_};
-ghost use Prim.Native.Nat.{ℕ, _*_, _<_, _≤_};
+ghost use Prim.Native.Nat.{ℕ, _+_, _*_, _<_, _≤_};
 ghost use lib.IntN.{pos, natAbs};
 ghost use lib.ListN.{length, getD};
 ghost use Rattle.algebra.specs.Ranges.{sumℕ};
 ghost use Rattle.algebra.specs.Buffers.{over};
 ghost use Rattle.meaning.specs.Design.{objects};
-ghost use Rattle.meaning.specs.Analysis.{total, squaredTotals};
+ghost use Rattle.meaning.specs.Analysis.{reading, total, squaredTotals};
 ghost use Rattle.meaning.specs.Refusals.{refused};
 ghost use Rattle.meaning.specs.Calls.{wordsUnder, written, squareSum, squaredTotalsVerdict, squaredTotalsAnswer, totalAnswer};
-ghost use Rattle.totals.specs.Developed.{totalIn, Weighed};
+ghost use Rattle.totals.specs.Developed.{totalIn, added, blockAdded, Weighed, Within, Room};
 ghost use Rattle.totals.specs.Verdicts.{totalsVerdict, noTotal};
 
 // T(i) of one object.
@@ -125,16 +127,58 @@ fn object_total(words: &[u64], readings: &[i32], b: usize, i: usize) -> i64
     total
 }
 
-// Lays T(0) .. T(v - 1) into `totals`.
+// Lays T(0) .. T(v - 1) into `totals`: the readings are walked once, each added to the objects of its own block.
 fn fill(words: &[u64], readings: &[i32], b: usize, v: usize, totals: &mut [i64])
     requires { ⌜ Weighed (now words) (now readings) b ⌝ }
-    requires { ⌜ (v ≤ 64) × (v ≤ length (now totals)) ⌝ }
+    requires { ⌜ Within (now words) b v ⌝ }
+    requires { ⌜ v ≤ length (now totals) ⌝ }
     ensures { λ r. ⌜ now (totals .exit) ≡ over v (totalIn (now (words .entry)) (now (readings .entry)) b) (now (totals .entry)) ⌝ }
+{
+    clear(v, totals);
+    let mut k = 0;
+    while k < b {
+        add_reading(words, readings, k, totals);
+        k += 1;
+    }
+}
+
+// Makes the first v totals 0.
+fn clear(v: usize, totals: &mut [i64])
+    requires { ⌜ v ≤ length (now totals) ⌝ }
+    ensures { λ r. ⌜ now (totals .exit) ≡ over v (λ i. pos 0) (now (totals .entry)) ⌝ }
 {
     let mut i = 0;
     while i < v {
-        totals[i] = object_total(words, readings, b, i);
+        totals[i] = 0;
         i += 1;
+    }
+}
+
+// Adds the reading of block k to the totals of its left objects, and takes it from those of its right ones.
+fn add_reading(words: &[u64], readings: &[i32], k: usize, totals: &mut [i64])
+    requires { ⌜ (2 * k + 1 < length (now words)) × (k < length (now readings)) × (natAbs (reading (now readings) k) ≤ 200000) ⌝ }
+    requires { ⌜ (Room (now totals) (getD (now words) (2 * k) 0) 260200000) × (Room (now totals) (getD (now words) (2 * k + 1) 0) 260000000) ⌝ }
+    ensures { λ r. ⌜ now (totals .exit) ≡ blockAdded (now (words .entry)) (now (readings .entry)) k (now (totals .entry)) ⌝ }
+{
+    let left = words[2 * k];
+    let right = words[2 * k + 1];
+    let y = readings[k] as i64;
+    add_to(left, y, totals);
+    add_to(right, 0 - y, totals);
+}
+
+// Adds y to the total of every object of a word.
+fn add_to(word: u64, y: i64, totals: &mut [i64])
+    requires { ⌜ Room (now totals) word 260200000 ⌝ }
+    requires { ⌜ natAbs y ≤ 200000 ⌝ }
+    ensures { λ r. ⌜ now (totals .exit) ≡ added word y (now (totals .entry)) ⌝ }
+{
+    let mut rest = word;
+    while rest != 0 {
+        let i = lowest(rest);
+        let total = totals[i];
+        totals[i] = total + y;
+        rest = without_lowest(rest);
     }
 }
 

@@ -99,7 +99,7 @@ returns-3 c = refuses (c .before .before .before .before .before .before .before
 fill-requires : tie.Need-fill-requires
 fill-requires c κs =
     let d = c .before .before .before .before in
-    (lay d .weighed, (omega (arith, stands d .0 .sizes .objects-most), omega (arith, d .before .before .if2 .left)))
+    (lay d .weighed, (lay d .within, omega (arith, d .before .before .if2 .left)))
 
 squared-totals-requires : tie.Need-squared-totals-requires
 squared-totals-requires c κs =

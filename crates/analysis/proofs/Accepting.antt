@@ -32,9 +32,9 @@ use Rattle.laws.proofs.Analysis.{vbeta-some, q-nonneg}
 use Rattle.laws.proofs.Sizes.{vbeta-most, total-most, squared-readings-most, q-most}
 use Rattle.spread.specs.Hundredths.{spreadingFrom}
 use Rattle.spread.proofs.Range.{Ranged, hundredths-is}
-use Rattle.totals.specs.Developed.{Weighed}
+use Rattle.totals.specs.Developed.{Weighed, Within}
 use Rattle.totals.proofs.Developing.{Laid, laid}
-use Rattle.analysis.proofs.Working.{fitted-signs}
+use Rattle.analysis.proofs.Working.{set-within, fitted-signs}
 use Rattle.analysis.specs.Worked.{totalAt, Totalled, Measured, numeratorIn, deviationIn, scaleIn, Workable, workedOut, noSolution}
 
 -- ---- verdicts
@@ -89,18 +89,18 @@ module _ (h : Head) (d : List ℕ) (y : List ℤ) (room totals : List ℤ) (l : 
   total-at i m = ap (λ (x : List ℤ). getD x i (pos 0)) e ∙ getD-over (objects h) (total h d y) room (pos 0) i m l
 
   -- the numerators are the definition's
-  numerator-is : (w : ℕ) (M : ℤ) (i : ℕ) → i < objects h → numeratorIn totals (objects h) w (vbeta h d) M i ≡ numeratorOf h d y w M i
+  numerator-is : (w : ℕ) (M : ℤ) → objects h ≤ 64 → w < 2 ^ objects h → (i : ℕ) → i < objects h → numeratorIn totals (objects h) w (vbeta h d) M i ≡ numeratorOf h d y w M i
   unfolding numeratorOf restrained
-  numerator-is w M i m =
+  numerator-is w M f g i m =
       ap₂ (λ (T S : ℤ). numerator (members (objects h) w) T S (vbeta h d) M) (total-at i m)
-      (sum-cong (objects h) _ _ (λ j n. ap (λ (T : ℤ). pos (member w j) *ℤ T) (total-at j n)))
+      (set-within (totalAt totals) (objects h) w f g ∙ sum-cong (objects h) _ _ (λ j n. ap (λ (T : ℤ). pos (member w j) *ℤ T) (total-at j n)))
 
   -- the deviation numerators are the definition's
-  deviation-is : (words : List ℕ) → Sound h d → Laid h d y words → (k : ℕ) → k < blocks h → deviationIn words y totals (objects h) (vbeta h d) k ≡ deviationOf h d y k
+  deviation-is : (words : List ℕ) → Sound h d → Laid h d y words → (k : ℕ) → k < blocks h → deviationIn words y totals (vbeta h d) k ≡ deviationOf h d y k
   unfolding deviationOf
   deviation-is words s a k m =
       ap (λ (F : ℤ). pos (vbeta h d) *ℤ reading y k -ℤ F)
-      (fitted-signs totals words (objects h) k ∙ sum-cong (objects h) _ _ (λ i n. ap₂ _*ℤ_ (a .signs k i m) (total-at i n)) ∙ sym (difference-signs h d s (total h d y) k m))
+      (fitted-signs words totals k (objects h) (omega (arith, s .sizes .objects-most)) (a .within .below (2 * k) (omega arith)) (a .within .below (2 * k + 1) (omega arith)) ∙ sum-cong (objects h) _ _ (λ i n. ap₂ _*ℤ_ (a .signs k i m) (total-at i n)) ∙ sym (difference-signs h d s (total h d y) k m))
 
   -- a room of totals
   totalled : Sound h d → Readings h y → Totalled totals (objects h)
@@ -205,6 +205,7 @@ module _ {h : Head} {d : List ℕ} {y : List ℤ} {w : ℕ} {M : ℤ} {p : Param
   workable = record {
     measured = measured h d design (its-job .measures .even) y (its-job .measures .readings) (job-totals h d y w M (a .stands)) (scaleIn p) squares scale-is (a .squares-are);
     weighed = subst (λ (q : Parameters). Weighed words y (q .b)) (sym (a .parameters-are)) (lay .weighed);
+    within = subst (λ (q : Parameters). Within words (q .b) (q .v)) (sym (a .parameters-are)) (lay .within);
     totalled = subst (λ (q : Parameters). Totalled totals (q .v)) (sym (a .parameters-are)) (totalled h d y room totals (a .totals-room) (a .totals-are) design (its-job .measures .readings));
     less = subst (λ (q : Parameters). q .l1 ≤ q .l2) (sym (a .parameters-are)) (constants .less);
     scale-most = subst (λ (x : ℕ). x ≤ 2600) (sym scale-is) (vbeta-most h d design (its-job .measures .even));
@@ -228,12 +229,12 @@ module _ {h : Head} {d : List ℕ} {y : List ℤ} {w : ℕ} {M : ℤ} {p : Param
   pub values-are : (values : List ℤ) → over (p .v) (numeratorIn totals (p .v) w (scaleIn p) M) values ≡ over (objects h) (numeratorOf h d y w M) values
   values-are values =
       (λ j. over (a .parameters-are j .v) (numeratorIn totals (a .parameters-are j .v) w (scale-is j) M) values)
-      ∙ over-ext (objects h) _ _ values (numerator-is h d y room totals (a .totals-room) (a .totals-are) w M)
+      ∙ over-ext (objects h) _ _ values (numerator-is h d y room totals (a .totals-room) (a .totals-are) w M (omega (arith, design .sizes .objects-most)) (its-job .restraint .set-inside))
 
   -- and its deviations
-  pub deviations-are : (deviations : List ℤ) → over (p .b) (deviationIn words y totals (p .v) (scaleIn p)) deviations ≡ over (blocks h) (deviationOf h d y) deviations
+  pub deviations-are : (deviations : List ℤ) → over (p .b) (deviationIn words y totals (scaleIn p)) deviations ≡ over (blocks h) (deviationOf h d y) deviations
   deviations-are deviations =
-      (λ j. over (a .parameters-are j .b) (deviationIn words y totals (a .parameters-are j .v) (scale-is j)) deviations)
+      (λ j. over (a .parameters-are j .b) (deviationIn words y totals (scale-is j)) deviations)
       ∙ over-ext (blocks h) _ _ deviations (deviation-is h d y room totals (a .totals-room) (a .totals-are) words design lay)
 
 -- ---- rooms that are always long enough

@@ -1,50 +1,146 @@
--- Sums over a room of totals: how a loop builds one, and how large it is. Assumes nothing.
-use mathlib.Core.Path.{_≡_, refl, sym, _∙_}
+-- Sums of a room of totals over the objects of a word: the walk that builds one, how large it is, and what a block's two words make of it.
+--     set-rest                            a sum is its lowest object's total and the sum over the rest
+--     set-within                          over a word with its objects below v, v places are enough
+--     SetWalk, set-starts, set-goes, set-ends, so-far-small   the walk
+--     set-small, fitted-small             how large
+--     fitted-signs                        by the signs of a block's words
+--     held-by                             every object of such a word has its total
+-- Assumes nothing.
+use mathlib.Core.Path.{_≡_, refl, sym, ap, ap₂, _∙_, subst}
 use mathlib.Core.List.{List}
-use Prim.Native.Nat.{ℕ, _+_, _*_, _≤_}
+use Prim.Native.Nat.{ℕ, _+_, _-_, _*_, _^_, _≤_, _<_}
 use native.Mathlib.Nat.{le-trans}
+use native.Mathlib.Decide.{ℕ-discrete, decLt}
 use native.Mathlib.Omega.{arith}
-use lib.IntN.{ℤ, pos, natAbs, _+ℤ_, _*ℤ_}
+use lib.IntN.{ℤ, pos, natAbs, _+ℤ_, _-ℤ_, _*ℤ_}
 use lib.ListN.{getD}
 use Rattle.algebra.specs.Ranges.{sum}
-use Rattle.algebra.proofs.Sums.{sum-none, sum-more, sum-sub, sum-ext}
-use Rattle.algebra.proofs.Solver.{_⊗_, _⊝_, _≐_, ring₃}
+use Rattle.algebra.proofs.Sums.{sum-add, sum-sub, sum-ext, sum-cong, sum-zero, sum-only, sum-split}
+use Rattle.algebra.proofs.Solver.{_⊕_, _⊗_, _⊝_, #, _≐_, ring₁, ring₃}
+use Rattle.algebra.proofs.Order.{comb₁}
 use Rattle.algebra.proofs.Bounds.{abs-*-le, abs-sub, abs-sum}
 use Rattle.meaning.specs.Analysis.{member, restrained}
-use Rattle.totals.specs.Developed.{signIn}
-use Rattle.words.specs.Bits.{bit}
-use Rattle.analysis.specs.Worked.{totalAt, Totalled, fittedIn}
+use Rattle.words.specs.Bits.{bit, lowestOf, withoutLowest}
+use Rattle.words.proofs.Bits.{bit-most, bit-none, bit-past, once, once-same, once-other}
+use Rattle.words.proofs.Walk.{lowest-lt, lowest-one, rest-bit, rest-less}
+use Rattle.totals.specs.Developed.{signIn, Room}
+use Rattle.analysis.specs.Worked.{totalAt, Totalled, overSet, fittedIn}
 
-module _ (totals : List ℤ) where
-  -- S over no object
-  pub set-none : (w : ℕ) → pos 0 ≡ restrained 0 w (totalAt totals)
-  unfolding restrained
-  set-none w = sum-none _
+-- ---- over any word
 
-  -- S over one object more
-  pub set-more : (i w : ℕ) → restrained (i + 1) w (totalAt totals) ≡ restrained i w (totalAt totals) +ℤ pos (member w i) *ℤ totalAt totals i
+module _ (f : ℕ → ℤ) where
+  -- a sum is its lowest object's and the sum over the rest
+  pub set-rest : (w : ℕ) → 0 < w → w < 2 ^ 64 → restrained 64 w f ≡ f (lowestOf w) +ℤ restrained 64 (withoutLowest w) f
   unfolding restrained
-  set-more i w = sum-more i _
+  set-rest w p h =
+      sum-ext 64 _ _ (λ i. ap (λ (b : ℕ). pos b *ℤ f i) (sym (rest-bit w p h i))
+      ∙ ring₃ (λ a b t. (a ⊕ b) ⊗ t ≐ b ⊗ t ⊕ a ⊗ t) (pos (bit (withoutLowest w) i)) (pos (once i (lowestOf w))) (f i) refl)
+      ∙ sum-add 64 (λ i. pos (once i (lowestOf w)) *ℤ f i) (λ i. pos (bit (withoutLowest w) i) *ℤ f i)
+      ∙ ap (λ (z : ℤ). z +ℤ sum 64 (λ i. pos (bit (withoutLowest w) i) *ℤ f i)) one
+    where
+      other : (j : ℕ) → j < 64 → (lowestOf w ≡ j → ⊥) → pos (once j (lowestOf w)) *ℤ f j ≡ pos 0
+      other j l n = ap (λ (b : ℕ). pos b *ℤ f j) (once-other j (lowestOf w) (λ e. n (sym e))) ∙ ring₁ (λ t. # 0 ⊗ t ≐ # 0) (f j) refl
 
-  -- each object adds at most a total
-  pub set-small : (i v w : ℕ) → Totalled totals v → i ≤ v → natAbs (restrained i w (totalAt totals)) ≤ i * 260000000
+      one : sum 64 (λ i. pos (once i (lowestOf w)) *ℤ f i) ≡ f (lowestOf w)
+      one =
+          sum-only 64 (lowestOf w) (λ i. pos (once i (lowestOf w)) *ℤ f i) (lowest-lt 64 w p h (omega arith)) other
+          ∙ ap (λ (b : ℕ). pos b *ℤ f (lowestOf w)) (once-same (lowestOf w) (lowestOf w) refl) ∙ ring₁ (λ t. # 1 ⊗ t ≐ t) (f (lowestOf w)) refl
+
+  -- over no object it is 0
+  pub set-nothing : restrained 64 0 f ≡ pos 0
   unfolding restrained
-  set-small i v w t l =
-      abs-sum i 260000000 (λ j. pos (member w j) *ℤ totalAt totals j)
-      (λ j m. le-trans (abs-*-le (pos (member w j)) (totalAt totals j) 1 260000000 (omega arith) (t .most j (omega arith))) (omega arith))
+  set-nothing = sum-cong 64 _ (λ i. pos 0) (λ i l. ap (λ (b : ℕ). pos b *ℤ f i) (bit-none i) ∙ ring₁ (λ t. # 0 ⊗ t ≐ # 0) (f i) refl) ∙ sum-zero 64
+
+  -- where a word has its objects below v, v places are enough
+  pub set-within : (v w : ℕ) → v ≤ 64 → w < 2 ^ v → restrained 64 w f ≡ restrained v w f
+  unfolding restrained
+  set-within v w l h =
+      let all : 64 ≡ v + (64 - v) = omega arith in
+      ap (λ (n : ℕ). sum n (λ i. pos (member w i) *ℤ f i)) all
+      ∙ sum-split v (64 - v) (λ i. pos (member w i) *ℤ f i)
+      ∙ ap (λ (z : ℤ). sum v (λ i. pos (member w i) *ℤ f i) +ℤ z)
+      (sum-cong (64 - v) _ (λ i. pos 0) (λ i a. ap (λ (b : ℕ). pos b *ℤ f (v + i)) (bit-past v w (v + i) h (omega arith)) ∙ ring₁ (λ t. # 0 ⊗ t ≐ # 0) (f (v + i)) refl) ∙ sum-zero (64 - v))
+      ∙ ring₁ (λ t. t ⊕ # 0 ≐ t) (sum v (λ i. pos (member w i) *ℤ f i)) refl
+
+-- ---- over a room of totals
+
+module _ (totals : List ℤ) (w : ℕ) (r : Room totals w 260000000) where
+  -- each object adds at most a total; so over a part of the word
+  pub part-small : (rest : ℕ) → ((i : ℕ) → bit rest i ≡ 1 → bit w i ≡ 1) → natAbs (overSet rest totals) ≤ 16640000000
+  unfolding restrained
+  part-small rest part = omega (arith, abs-sum 64 260000000 (λ i. pos (member rest i) *ℤ totalAt totals i) (λ i l. by i (ℕ-discrete (bit rest i) 1)))
+    where
+      by : (i : ℕ) → Dec (bit rest i ≡ 1) → natAbs (pos (member rest i) *ℤ totalAt totals i) ≤ 260000000
+      by i (yes e) = le-trans (abs-*-le (pos (member rest i)) (totalAt totals i) 1 260000000 (bit-most rest i) (r .held i (part i e) .1)) (omega arith)
+      by i (no n) =
+          let none : bit rest i ≡ 0 = omega (arith, n, bit-most rest i) in
+          subst (λ (z : ℤ). natAbs z ≤ 260000000) (sym (ap (λ (b : ℕ). pos b *ℤ totalAt totals i) none ∙ ring₁ (λ t. # 0 ⊗ t ≐ # 0) (totalAt totals i) refl)) (omega arith)
+
+  -- over all of it
+  pub set-small : natAbs (overSet w totals) ≤ 16640000000
+  set-small = part-small w (λ i e. e)
+
+-- the walk: rest is what is left of the word w, and so far the total of every object that is not
+pub record SetWalk (w : ℕ) (totals : List ℤ) (rest : ℕ) (so-far : ℤ) : Type 0 where
+  pub less : rest ≤ w
+  pub part : (i : ℕ) → bit rest i ≡ 1 → bit w i ≡ 1
+  pub sums : so-far +ℤ overSet rest totals ≡ overSet w totals
+
+module _ (w : ℕ) (totals : List ℤ) where
+  -- nothing was added yet
+  pub set-starts : SetWalk w totals w (pos 0)
+  set-starts = record { less = omega arith; part = λ i e. e; sums = ring₁ (λ t. # 0 ⊕ t ≐ t) (overSet w totals) refl }
+
+  -- all was added
+  pub set-ends : (so-far : ℤ) → SetWalk w totals 0 so-far → so-far ≡ overSet w totals
+  set-ends so-far k = sym (ap (λ (z : ℤ). so-far +ℤ z) (set-nothing (totalAt totals)) ∙ ring₁ (λ t. t ⊕ # 0 ≐ t) so-far refl) ∙ k .sums
+
+  module _ (rest : ℕ) (so-far : ℤ) (h : w < 2 ^ 64) (p : 0 < rest) (k : SetWalk w totals rest so-far) where
+    -- the lowest object is one of the word
+    pub lowest-part : bit w (lowestOf rest) ≡ 1
+    lowest-part = k .part (lowestOf rest) (lowest-one rest p (omega (arith, k .less)))
+
+    -- it is taken
+    pub set-goes : (z : ℤ) → z ≡ so-far +ℤ totalAt totals (lowestOf rest) → SetWalk w totals (withoutLowest rest) z
+    set-goes z e = record {
+      less = omega (arith, rest-less rest p, k .less);
+      part = λ i f. k .part i (omega (arith, rest-bit rest p (omega (arith, k .less)) i, bit-most rest i));
+      sums =
+          ap (λ (x : ℤ). x +ℤ overSet (withoutLowest rest) totals) e
+          ∙ ring₃ (λ s t r. s ⊕ t ⊕ r ≐ s ⊕ (t ⊕ r)) so-far (totalAt totals (lowestOf rest)) (overSet (withoutLowest rest) totals) refl
+          ∙ ap (λ (x : ℤ). so-far +ℤ x) (sym (set-rest (totalAt totals) rest p (omega (arith, k .less)))) ∙ k .sums;
+    }
+
+  -- what was added is the difference of two sums
+  pub so-far-small : (rest : ℕ) (so-far : ℤ) → Room totals w 260000000 → SetWalk w totals rest so-far → natAbs so-far ≤ 33280000000
+  so-far-small rest so-far r k =
+      let taken : so-far ≡ overSet w totals -ℤ overSet rest totals = comb₁ (pos 1) (k .sums) (ring₃ (λ s a b. s ⊝ (b ⊝ a) ≐ # 1 ⊗ (s ⊕ a ⊝ b)) so-far (overSet rest totals) (overSet w totals) refl) in
+      subst (λ (z : ℤ). natAbs z ≤ 33280000000) (sym taken) (omega (arith, abs-sub (overSet w totals) (overSet rest totals), set-small totals w r, part-small totals w r rest (k .part)))
+
+-- ---- the words of a block
+
+-- every object of a word that has them below v has its total
+pub held-by : (totals : List ℤ) (v w : ℕ) → Totalled totals v → w < 2 ^ v → Room totals w 260000000
+held-by totals v w t h = record { held = λ i e. let l = below i e in (omega (arith, t .long), t .most i l) }
+  where
+    below : (i : ℕ) → bit w i ≡ 1 → i < v
+    below i e = by (decLt i v)
+      where
+        by : Dec (i < v) → i < v
+        by (yes l) = l
+        by (no n) = absurd (omega (arith, e, bit-past v w i h (omega (arith, n))))
+
+module _ (words : List ℕ) (totals : List ℤ) (k : ℕ) where
+  -- each side is at most that of 64 totals
+  pub fitted-small : Room totals (getD words (2 * k) 0) 260000000 → Room totals (getD words (2 * k + 1) 0) 260000000 → natAbs (fittedIn words totals k) ≤ 33280000000
+  fitted-small a b =
+      le-trans (abs-sub (overSet (getD words (2 * k) 0) totals) (overSet (getD words (2 * k + 1) 0) totals))
+      (omega (arith, set-small totals (getD words (2 * k) 0) a, set-small totals (getD words (2 * k + 1) 0) b))
 
   -- a block is fitted by the signs of its words
-  pub fitted-signs : (words : List ℕ) (v k : ℕ) → fittedIn words totals v k ≡ sum v (λ i. signIn words k i *ℤ totalAt totals i)
-  unfolding fittedIn restrained
-  fitted-signs words v k =
-      sym (sum-sub v _ _)
+  pub fitted-signs : (v : ℕ) → v ≤ 64 → getD words (2 * k) 0 < 2 ^ v → getD words (2 * k + 1) 0 < 2 ^ v → fittedIn words totals k ≡ sum v (λ i. signIn words k i *ℤ totalAt totals i)
+  unfolding restrained
+  fitted-signs v l a b =
+      ap₂ _-ℤ_ (set-within (totalAt totals) v (getD words (2 * k) 0) l a) (set-within (totalAt totals) v (getD words (2 * k + 1) 0) l b)
+      ∙ sym (sum-sub v _ _)
       ∙ sum-ext v _ _ (λ i. ring₃ (λ l r t. l ⊗ t ⊝ r ⊗ t ≐ (l ⊝ r) ⊗ t) (pos (bit (getD words (2 * k) 0) i)) (pos (bit (getD words (2 * k + 1) 0) i)) (totalAt totals i) refl)
-
-  -- each object adds at most a total to each side
-  pub fitted-small : (words : List ℕ) (v k : ℕ) → Totalled totals v → natAbs (fittedIn words totals v k) ≤ 26000000000
-  unfolding fittedIn
-  fitted-small words v k t =
-      let l = getD words (2 * k) 0 in
-      let r = getD words (2 * k + 1) 0 in
-      le-trans (abs-sub (restrained v l (totalAt totals)) (restrained v r (totalAt totals)))
-      (omega (arith, t .few, set-small v v l t (omega arith), set-small v v r t (omega arith)))

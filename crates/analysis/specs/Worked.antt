@@ -14,7 +14,7 @@ use Rattle.meaning.specs.Refusals.{accepted}
 use Rattle.meaning.specs.Calls.{squaredReadingsVerdict, noParameters, noSpreading}
 use Rattle.laws.specs.Fits.{Fits}
 use Rattle.spread.specs.Hundredths.{spreadingFrom}
-use Rattle.totals.specs.Developed.{Weighed}
+use Rattle.totals.specs.Developed.{Weighed, Within}
 
 -- the total that stands at place i
 abbrev pub totalAt : List ℤ → ℕ → ℤ
@@ -34,17 +34,21 @@ pub record Measured (h : Head) (y : List ℤ) (vb squares : ℕ) : Type 0 where
   pub q-most : vb * natAbs (squaredReadings h y) ≤ 135200000000000000
   pub freedom-some : objects h ≤ blocks h + 1
 
+-- the totals over the objects of the word w, added
+abbrev pub overSet : ℕ → List ℤ → ℤ
+overSet w totals = restrained 64 w (totalAt totals)
+
 -- the numerator of object i
 abbrev pub numeratorIn : List ℤ → ℕ → ℕ → ℕ → ℤ → ℕ → ℤ
-numeratorIn totals v w vb M i = numerator (members v w) (totalAt totals i) (restrained v w (totalAt totals)) vb M
+numeratorIn totals v w vb M i = numerator (members v w) (totalAt totals i) (overSet w totals) vb M
 
 -- the totals over the left word of block k minus those over the right one
-unfoldable pub fittedIn : List ℕ → List ℤ → ℕ → ℕ → ℤ
-fittedIn words totals v k = restrained v (getD words (2 * k) 0) (totalAt totals) -ℤ restrained v (getD words (2 * k + 1) 0) (totalAt totals)
+abbrev pub fittedIn : List ℕ → List ℤ → ℕ → ℤ
+fittedIn words totals k = overSet (getD words (2 * k) 0) totals -ℤ overSet (getD words (2 * k + 1) 0) totals
 
 -- the deviation numerator of block k
-abbrev pub deviationIn : List ℕ → List ℤ → List ℤ → ℕ → ℕ → ℕ → ℤ
-deviationIn words y totals v vb k = pos vb *ℤ reading y k -ℤ fittedIn words totals v k
+abbrev pub deviationIn : List ℕ → List ℤ → List ℤ → ℕ → ℕ → ℤ
+deviationIn words y totals vb k = pos vb *ℤ reading y k -ℤ fittedIn words totals k
 
 -- v·beta, from the parameters of a design
 abbrev pub scaleIn : Parameters → ℕ
@@ -54,6 +58,7 @@ scaleIn p = p .v * (p .l2 - p .l1)
 pub record Workable (h : Head) (y : List ℤ) (w : ℕ) (M : ℤ) (p : Parameters) (squares : ℕ) (words : List ℕ) (totals : List ℤ) : Type 0 where
   pub measured : Measured h y (scaleIn p) squares
   pub weighed : Weighed words y (p .b)
+  pub within : Within words (p .b) (p .v)
   pub totalled : Totalled totals (p .v)
   pub less : p .l1 ≤ p .l2
   pub scale-most : scaleIn p ≤ 2600

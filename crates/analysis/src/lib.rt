@@ -9,17 +9,19 @@ use readings::sum_of_squares;
 use refusals::judged_with_rooms;
 use spread::spread_from;
 use totals::all_totals;
+use words::lowest;
 use words::ones;
+use words::without_lowest;
 ghost use mathlib.Core.Path.{_≡_};
-ghost use Prim.Native.Nat.{_+_, _-_, _*_, _<_, _≤_};
+ghost use Prim.Native.Nat.{ℕ, _+_, _-_, _*_, _^_, _<_, _≤_};
 ghost use lib.IntN.{natAbs};
-ghost use lib.ListN.{length};
+ghost use lib.ListN.{getD, length};
 ghost use Rattle.algebra.specs.Buffers.{over};
 ghost use Rattle.spread.specs.Hundredths.{spreadingFrom};
-ghost use Rattle.totals.specs.Developed.{Weighed};
-ghost use Rattle.meaning.specs.Analysis.{members, restrained, squaredReadings, freedom};
+ghost use Rattle.totals.specs.Developed.{Weighed, Room};
+ghost use Rattle.meaning.specs.Analysis.{members, squaredReadings, freedom};
 ghost use Rattle.meaning.specs.Calls.{analyseVerdict, solvedUnder, wordsUnder, valuesUnder, deviationsUnder};
-ghost use Rattle.analysis.specs.Worked.{Totalled, Measured, Workable, totalAt, fittedIn, scaleIn, numeratorIn, deviationIn, workedOut, noSolution};
+ghost use Rattle.analysis.specs.Worked.{Totalled, Measured, Workable, overSet, fittedIn, scaleIn, numeratorIn, deviationIn, workedOut, noSolution};
 
 // Everything at once: words, values and deviations into lent rooms, the design judged once. All rooms are looked at before the first is written.
 pub fn analyse(
@@ -112,14 +114,14 @@ fn work(
     requires { ⌜ (parameters .v ≤ length (now values)) × (parameters .b ≤ length (now deviations)) ⌝ }
     ensures { λ r. ⌜ r ≡ workedOut head (now (readings .entry)) set parameters squares ⌝ }
     ensures { λ r. ⌜ now (values .exit) ≡ over (parameters .v) (numeratorIn (now (totals .entry)) (parameters .v) set (scaleIn parameters) sum) (now (values .entry)) ⌝ }
-    ensures { λ r. ⌜ now (deviations .exit) ≡ over (parameters .b) (deviationIn (now (words .entry)) (now (readings .entry)) (now (totals .entry)) (parameters .v) (scaleIn parameters)) (now (deviations .entry)) ⌝ }
+    ensures { λ r. ⌜ now (deviations .exit) ≡ over (parameters .b) (deviationIn (now (words .entry)) (now (readings .entry)) (now (totals .entry)) (scaleIn parameters)) (now (deviations .entry)) ⌝ }
 {
     let v = parameters.v as usize;
     let b = parameters.b as usize;
     let vbeta = parameters.v * (parameters.l2 - parameters.l1);
     let t = ones(set);
     fill_values(totals, v, set, t, vbeta, sum, values);
-    fill_deviations(words, readings, totals, b, v, vbeta, deviations);
+    fill_deviations(words, readings, totals, b, vbeta, deviations);
     let spreading = measure(head, readings, vbeta, squares);
     let denominator = t * vbeta;
     Solved {
@@ -141,18 +143,18 @@ fn measure(head: Head, readings: &[i32], vbeta: u64, squares: u64) -> Spreading
     spread_from(q, vbeta, freedom as u64)
 }
 
-// The totals over the objects of a set, added; over the restraint set it is S.
-fn set_sum(totals: &[i64], v: usize, set: u64) -> i64
-    requires { ⌜ Totalled (now totals) v ⌝ }
-    ensures { λ r. ⌜ r ≡ restrained v set (totalAt (now (totals .entry))) ⌝ }
+// The totals over the objects of a set, added: over the restraint set it is S. Only its own objects are walked, lowest first.
+fn set_sum(totals: &[i64], set: u64) -> i64
+    requires { ⌜ Room (now totals) set 260000000 ⌝ }
+    ensures { λ r. ⌜ r ≡ overSet set (now (totals .entry)) ⌝ }
 {
     let mut sum: i64 = 0;
-    let mut i = 0;
-    while i < v {
-        let member = (set >> i) % 2;
+    let mut rest = set;
+    while rest != 0 {
+        let i = lowest(rest);
         let total = totals[i];
-        sum += member as i64 * total;
-        i += 1;
+        sum += total;
+        rest = without_lowest(rest);
     }
     sum
 }
@@ -160,11 +162,11 @@ fn set_sum(totals: &[i64], v: usize, set: u64) -> i64
 // Lays the numerator of every object into `values`; t is how many objects the restraint set has.
 fn fill_values(totals: &[i64], v: usize, set: u64, t: u64, vbeta: u64, sum: i64, values: &mut [i64])
     requires { ⌜ Totalled (now totals) v ⌝ }
-    requires { ⌜ (v ≤ length (now values)) × (t ≡ members v set) × (t ≤ 50) × (vbeta ≤ 2600) × (natAbs sum ≤ 1000000000) ⌝ }
+    requires { ⌜ (v ≤ length (now values)) × (set < 2 ^ v) × (t ≡ members v set) × (t ≤ 50) × (vbeta ≤ 2600) × (natAbs sum ≤ 1000000000) ⌝ }
     ensures { λ r. ⌜ now (values .exit) ≡ over v (numeratorIn (now (totals .entry)) v set vbeta sum) (now (values .entry)) ⌝ }
 {
     let members = t as i64;
-    let over_set = set_sum(totals, v, set);
+    let over_set = set_sum(totals, set);
     let lifted = vbeta as i64 * sum;
     let mut i = 0;
     while i < v {
@@ -175,15 +177,15 @@ fn fill_values(totals: &[i64], v: usize, set: u64, t: u64, vbeta: u64, sum: i64,
 }
 
 // What the totals make of block k: left group minus right group.
-fn fitted(words: &[u64], totals: &[i64], v: usize, k: usize) -> i64
-    requires { ⌜ Totalled (now totals) v ⌝ }
+fn fitted(words: &[u64], totals: &[i64], k: usize) -> i64
     requires { ⌜ 2 * k + 1 < length (now words) ⌝ }
-    ensures { λ r. ⌜ r ≡ fittedIn (now (words .entry)) (now (totals .entry)) v k ⌝ }
+    requires { ⌜ (Room (now totals) (getD (now words) (2 * k) 0) 260000000) × (Room (now totals) (getD (now words) (2 * k + 1) 0) 260000000) ⌝ }
+    ensures { λ r. ⌜ r ≡ fittedIn (now (words .entry)) (now (totals .entry)) k ⌝ }
 {
     let left_word = words[2 * k];
     let right_word = words[2 * k + 1];
-    let left = set_sum(totals, v, left_word);
-    let right = set_sum(totals, v, right_word);
+    let left = set_sum(totals, left_word);
+    let right = set_sum(totals, right_word);
     left - right
 }
 
@@ -193,20 +195,19 @@ fn fill_deviations(
     readings: &[i32],
     totals: &[i64],
     b: usize,
-    v: usize,
     vbeta: u64,
     deviations: &mut [i64],
 )
     requires { ⌜ Weighed (now words) (now readings) b ⌝ }
-    requires { ⌜ Totalled (now totals) v ⌝ }
+    requires { ⌜ ((c : ℕ) → c < 2 * b → Room (now totals) (getD (now words) c 0) 260000000) ⌝ }
     requires { ⌜ (b ≤ length (now deviations)) × (vbeta ≤ 2600) ⌝ }
-    ensures { λ r. ⌜ now (deviations .exit) ≡ over b (deviationIn (now (words .entry)) (now (readings .entry)) (now (totals .entry)) v vbeta) (now (deviations .entry)) ⌝ }
+    ensures { λ r. ⌜ now (deviations .exit) ≡ over b (deviationIn (now (words .entry)) (now (readings .entry)) (now (totals .entry)) vbeta) (now (deviations .entry)) ⌝ }
 {
     let scale = vbeta as i64;
     let mut k = 0;
     while k < b {
         let y = readings[k] as i64;
-        deviations[k] = scale * y - fitted(words, totals, v, k);
+        deviations[k] = scale * y - fitted(words, totals, k);
         k += 1;
     }
 }

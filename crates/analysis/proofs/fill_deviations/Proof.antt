@@ -1,28 +1,29 @@
 -- `fill_deviations`: the first k entries are deviation numerators, and the later ones are as they were. Assumes nothing.
 use mathlib.Core.Path.{_≡_, refl}
-use Prim.Native.Nat.{ℕ, _-_, _≤_, _<_}
+use Prim.Native.Nat.{ℕ, _+_, _-_, _*_, _≤_, _<_}
 use native.Mathlib.Omega.{arith}
 use denote.Ref.{now}
 use lib.Dec.{lit<}
 use lib.IntN.{ℤ, pos}
-use lib.ListN.{length, length-set}
+use lib.ListN.{getD, length, length-set}
 use mir.Syntax.{w32}
 use mir.Val.{SFits}
 use Rattle.algebra.specs.Buffers.{over}
 use Rattle.algebra.proofs.Filling.{over-none, over-step, over-end}
 use Rattle.algebra.proofs.Numbers.{Num, called, unsigned, widened, widened-fits, small-fits, minus, minus-fits, times, times-fits}
 use Rattle.meaning.specs.Analysis.{reading}
+use Rattle.totals.specs.Developed.{Room}
 use Rattle.analysis.specs.Worked.{deviationIn}
 use Rattle.analysis.proofs.Working.{fitted-small}
 use Rattle.analysis.proofs.fill_deviations.Statement.{statement}
 use Rattle.analysis.proofs.fill_deviations.Tie as tie
 
 abbrev Inv-loop : tie.InvT-loop
-Inv-loop words readings totals b v vbeta deviations₀ scale k₀ deviations k =
-    (k ≤ b) × (deviations ≡ over k (deviationIn words readings totals v vbeta) deviations₀) × (length deviations ≡ length deviations₀)
+Inv-loop words readings totals b vbeta deviations₀ scale k₀ deviations k =
+    (k ≤ b) × (deviations ≡ over k (deviationIn words readings totals vbeta) deviations₀) × (length deviations ≡ length deviations₀)
 
 abbrev μ-loop : tie.MeasureT-loop
-μ-loop words readings totals b v vbeta deviations₀ scale k₀ deviations k = b - k
+μ-loop words readings totals b vbeta deviations₀ scale k₀ deviations k = b - k
 
 -- what a turn reads
 module _ (c : tie.After-y Inv-loop μ-loop) where
@@ -47,10 +48,16 @@ module _ (c : tie.After-y Inv-loop μ-loop) where
   abbrev product : Num
   product = times scale y (lit< tt)
 
+  left-held : Room (now (start .args .totals)) (getD (now (start .args .words)) (2 * k) 0) 260000000
+  left-held = start .pre .1 .0 (2 * k) (omega arith)
+
+  right-held : Room (now (start .args .totals)) (getD (now (start .args .words)) (2 * k + 1) 0) 260000000
+  right-held = start .pre .1 .0 (2 * k + 1) (omega arith)
+
 -- and what it computes
 module _ (c : tie.After-fitted Inv-loop μ-loop) where
   abbrev fit : Num
-  fit = called (c .fitted .result) 26000000000 (c .fitted .ensures) (fitted-small _ _ _ _ (start (c .before) .pre .1 .0)) (lit< tt)
+  fit = called (c .fitted .result) 33280000000 (c .fitted .ensures) (fitted-small (now (start (c .before) .args .words)) (now (start (c .before) .args .totals)) (k (c .before)) (left-held (c .before)) (right-held (c .before))) (lit< tt)
 
   abbrev all : Num
   all = minus (product (c .before)) fit (lit< tt)
@@ -74,7 +81,7 @@ fill-deviations-spec =
     (λ c. omega (arith, c .before .before .before .pre .0 .readings-long))
     (λ c. widened-fits _ (fits c))
     (λ c. times-fits (scale c) (y c) (lit< tt))
-    (λ c κs. (start c .pre .1 .0, omega (arith, start c .pre .0 .words-long)))
+    (λ c κs. (omega (arith, start c .pre .0 .words-long), (left-held c, right-held c)))
     (λ c. minus-fits (product (c .before)) (fit c) (lit< tt))
     (λ c. omega arith)
     (λ c. omega (arith, start (c .before) .pre .1 .1 .0, c .before .before .before .loop .inv .2))

@@ -1,7 +1,6 @@
 -- `fill_values`: the first i entries are numerators, and the later ones are as they were. Assumes nothing.
 use mathlib.Core.Path.{_≡_, refl, ap, _∙_}
 use Prim.Native.Nat.{ℕ, _-_, _≤_, _<_}
-use native.Mathlib.Nat.{le-trans}
 use native.Mathlib.Omega.{arith}
 use denote.Ref.{now}
 use lib.Dec.{lit<}
@@ -14,8 +13,8 @@ use Rattle.algebra.specs.Buffers.{over}
 use Rattle.algebra.proofs.Filling.{over-none, over-step, over-end}
 use Rattle.algebra.proofs.Numbers.{Num, called, number, param, unsigned, small-fits, minus, minus-fits, times, times-fits, plus, plus-fits}
 use Rattle.meaning.specs.Analysis.{members}
-use Rattle.analysis.specs.Worked.{totalAt, numeratorIn}
-use Rattle.analysis.proofs.Working.{set-small}
+use Rattle.analysis.specs.Worked.{totalAt, overSet, numeratorIn}
+use Rattle.analysis.proofs.Working.{set-small, held-by}
 use Rattle.analysis.proofs.fill_values.Statement.{statement}
 use Rattle.analysis.proofs.fill_values.Tie as tie
 
@@ -33,19 +32,21 @@ module _ (c : tie.After-set-sum Inv-loop μ-loop) where
     bits = c .before .args .t;
     num = pos (members (c .before .args .v) (c .before .args .set));
     size = 50;
-    reads = toZ-pos w64 (omega (arith, c .before .pre .1 .2)) ∙ ap pos (c .before .pre .1 .1);
-    small = omega (arith, c .before .pre .1 .1, c .before .pre .1 .2);
+    reads = toZ-pos w64 (omega (arith, c .before .pre .1 .3)) ∙ ap pos (c .before .pre .1 .2);
+    small = omega (arith, c .before .pre .1 .2, c .before .pre .1 .3);
   }
 
+  summed : c .set-sum .result ≡ overSet (c .before .args .set) (now (c .before .args .totals))
+  summed = search (c .set-sum .ensures)
+
   abbrev over-set : Num
-  over-set = called (c .set-sum .result) 13000000000 (c .set-sum .ensures)
-      (le-trans (set-small _ _ (c .before .args .v) _ (c .before .pre .0) (omega arith)) (omega (arith, c .before .pre .0 .few))) (lit< tt)
+  over-set = called (c .set-sum .result) 16640000000 summed (set-small _ _ (held-by _ _ _ (c .before .pre .0) (c .before .pre .1 .1))) (lit< tt)
 
   abbrev scale : Num
-  scale = unsigned (c .before .args .vbeta) 2600 (c .before .pre .1 .3) (lit< tt)
+  scale = unsigned (c .before .args .vbeta) 2600 (c .before .pre .1 .4) (lit< tt)
 
   abbrev sum : Num
-  sum = param (c .before .args .sum) 1000000000 (c .before .pre .1 .4) (lit< tt)
+  sum = param (c .before .args .sum) 1000000000 (c .before .pre .1 .5) (lit< tt)
 
   abbrev lifted : Num
   lifted = times scale sum (lit< tt)
@@ -91,8 +92,8 @@ fill-values-spec =
     (tie.spec
     Inv-loop
     μ-loop
-    (λ c. omega (arith, c .pre .1 .2))
-    (λ c κs. c .pre .0)
+    (λ c. omega (arith, c .pre .1 .3))
+    (λ c κs. search (held-by _ _ _ (c .pre .0) (c .pre .1 .1)))
     (λ c. small-fits _ (scale c .small) (lit< tt))
     (λ c. times-fits (scale c) (sum c) (lit< tt))
     (λ c. (omega arith, over-none _ _, refl))

@@ -1,43 +1,63 @@
--- `set_sum`: `sum` is S over the first i objects; `set-small` bounds it. Assumes nothing.
-use mathlib.Core.Path.{_≡_, sym, _∙_}
-use Prim.Native.Nat.{ℕ, _-_, _*_, _≤_, _<_}
+-- `set_sum`: `sum`, with the totals of every object that is left, is the whole sum throughout. Assumes nothing.
+use mathlib.Core.Path.{_≡_, refl, sym, ap, _∙_, subst}
+use Prim.Native.Nat.{ℕ, _≤_, _<_}
 use native.Mathlib.Omega.{arith}
 use denote.Ref.{now}
 use lib.Dec.{lit<}
+use lib.IntN.{ℤ, natAbs, _+ℤ_}
+use lib.ListN.{length}
 use mir.Syntax.{w64}
 use mir.Val.{toZ}
-use Rattle.algebra.proofs.Numbers.{Num, local, unsigned, number, small-fits, times, times-fits, plus, plus-fits}
-use Rattle.meaning.specs.Analysis.{member, restrained}
+use Rattle.algebra.proofs.Numbers.{Num, local, number, plus, plus-fits}
+use Rattle.words.specs.Bits.{lowestOf}
+use Rattle.words.proofs.Walk.{lowest-lt, rest-less}
 use Rattle.analysis.specs.Worked.{totalAt}
-use Rattle.analysis.proofs.Working.{set-none, set-more, set-small}
+use Rattle.analysis.proofs.Working.{SetWalk, set-starts, set-goes, set-ends, lowest-part, so-far-small}
 use Rattle.analysis.proofs.set_sum.Statement.{statement}
 use Rattle.analysis.proofs.set_sum.Tie as tie
 
 abbrev Inv-loop : tie.InvT-loop
-Inv-loop totals v set sum₀ i₀ sum i = (i ≤ v) × (toZ w64 sum ≡ restrained i set (totalAt totals))
+Inv-loop totals set sum₀ rest₀ sum rest = SetWalk set totals rest (toZ w64 sum)
 
 abbrev μ-loop : tie.MeasureT-loop
-μ-loop totals v set sum₀ i₀ sum i = v - i
+μ-loop totals set sum₀ rest₀ sum rest = rest
 
--- what a turn computes
-module _ (c : tie.After-total Inv-loop μ-loop) where
+-- the object that is taken
+module _ (c : tie.After-lowest Inv-loop μ-loop) where
   abbrev start : tie.Start Inv-loop μ-loop
   start = c .before .before .before
 
-  abbrev i : ℕ
-  i = c .before .before .loop .i
+  abbrev rest : ℕ
+  rest = c .before .before .loop .rest
 
-  abbrev in-set : Num
-  in-set = unsigned (member (start .args .set) i) 1 (omega arith) (lit< tt)
+  some : 0 < rest
+  some = omega (arith, c .before .loop-test .taken)
+
+  near : c .lowest .result < 64
+  near = omega (arith, c .lowest .ensures, lowest-lt 64 rest some (omega (arith, start .fits .set .fits, c .before .before .loop .inv .less)) (omega arith))
+
+  held : (c .lowest .result < length (now (start .args .totals))) × (natAbs (totalAt (now (start .args .totals)) (c .lowest .result)) ≤ 260000000)
+  held = subst (λ (i : ℕ). (i < length (now (start .args .totals))) × (natAbs (totalAt (now (start .args .totals)) i) ≤ 260000000)) (sym (c .lowest .ensures))
+      (start .pre .held (lowestOf rest) (lowest-part _ _ rest _ (start .fits .set .fits) some (c .before .before .loop .inv)))
+
+-- what a turn computes
+module _ (c : tie.After-total Inv-loop μ-loop) where
+  abbrev o : tie.After-lowest Inv-loop μ-loop
+  o = c .before
 
   abbrev total : Num
-  total = number (totalAt (now (start .args .totals)) i) 260000000 (start .pre .most i (omega arith)) (lit< tt)
-
-  abbrev term : Num
-  term = times in-set total (lit< tt)
+  total = number (totalAt (now (start o .args .totals)) (o .lowest .result)) 260000000 (held o .1) (lit< tt)
 
   abbrev so-far : Num
-  so-far = local (c .before .before .loop .sum) (i * 260000000) (c .before .before .loop .inv .1) (set-small _ i (start .args .v) _ (start .pre) (omega arith))
+  so-far = local (o .before .before .loop .sum) 33280000000 refl (so-far-small _ _ _ _ (start o .pre) (o .before .before .loop .inv))
+
+loop-again : tie.Need-loop-again Inv-loop μ-loop
+loop-again c =
+    let t = c .before in
+    let v = start (o t) in
+    subst (λ (r : ℕ). SetWalk (v .args .set) (now (v .args .totals)) r (toZ w64 (plus (so-far t) (total t) (lit< tt) .bits))) (sym (c .without-lowest .ensures))
+    (set-goes _ _ (rest (o t)) _ (v .fits .set .fits) (some (o t)) (o t .before .before .loop .inv) (toZ w64 (plus (so-far t) (total t) (lit< tt) .bits))
+    (plus (so-far t) (total t) (lit< tt) .reads ∙ ap (λ (i : ℕ). toZ w64 (o t .before .before .loop .sum) +ℤ totalAt (now (v .args .totals)) i) (o t .lowest .ensures)))
 
 pub set-sum-spec : {M : Type 1} → statement M
 set-sum-spec =
@@ -45,14 +65,12 @@ set-sum-spec =
     (tie.spec
     Inv-loop
     μ-loop
-    (λ c. (omega arith, set-none (now (c .args .totals)) _))
-    (λ c. omega (arith, c .before .before .pre .few))
-    (λ c. omega arith)
-    (λ c. omega (arith, c .before .before .pre .long))
-    (λ c. small-fits _ (in-set c .small) (lit< tt))
-    (λ c. times-fits (in-set c) (total c) (lit< tt))
-    (λ c. plus-fits (so-far c) (term c) (omega (arith, start c .pre .few)))
-    (λ c. omega arith)
-    (λ c. omega arith)
-    (λ c. (omega arith, plus (so-far c) (term c) (omega (arith, start c .pre .few)) .reads ∙ sym (set-more (now (start c .args .totals)) (i c) _)))
-    (λ c. let e : c .before .loop .i ≡ c .before .before .args .v = omega arith in cc))
+    (λ c. set-starts _ _)
+    (λ c κs. tt)
+    (λ c. omega (arith, near c))
+    (λ c. held c .0)
+    (λ c. plus-fits (so-far c) (total c) (lit< tt))
+    (λ c κs. tt)
+    (λ c. omega (arith, c .without-lowest .ensures, rest-less (rest (c .before .before)) (some (c .before .before))))
+    loop-again
+    (λ c. set-ends _ _ _ (subst (λ (r : ℕ). SetWalk (c .before .before .args .set) (now (c .before .before .args .totals)) r (toZ w64 (c .before .loop .sum))) (c .loop-test .left) (c .before .loop .inv))))

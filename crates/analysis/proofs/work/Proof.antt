@@ -12,6 +12,7 @@ use Rattle.meaning.specs.Analysis.{members}
 use Rattle.laws.proofs.Solution.{members-most}
 use Rattle.words.proofs.Sides.{ones-members}
 use Rattle.analysis.specs.Worked.{scaleIn, numeratorIn}
+use Rattle.analysis.proofs.Working.{held-by}
 use Rattle.analysis.proofs.work.Statement.{statement}
 use Rattle.analysis.proofs.work.Tie as tie
 
@@ -29,11 +30,11 @@ module _ (c : tie.After-ones) where
 fill-values-requires : tie.Need-fill-values-requires
 fill-values-requires c κs = let o = c .before in
     let s = start o in
-    (s .pre .0 .totalled, (s .pre .1 .0, search (counted o), omega (arith, few o), s .pre .0 .scale-most, rw (toZ-ofZ (s .fits .sum)) (s .pre .0 .sum-most)))
+    (s .pre .0 .totalled, (s .pre .1 .0, s .pre .0 .set-inside, search (counted o), omega (arith, few o), s .pre .0 .scale-most, rw (toZ-ofZ (s .fits .sum)) (s .pre .0 .sum-most)))
 
 fill-deviations-requires : tie.Need-fill-deviations-requires
 fill-deviations-requires c κs = let s = start (c .before .before .before .before) in
-    (s .pre .0 .weighed, (s .pre .0 .totalled, (s .pre .1 .1, s .pre .0 .scale-most)))
+    (s .pre .0 .weighed, ((λ i l. held-by _ _ _ (s .pre .0 .totalled) (s .pre .0 .within .below i l)), (s .pre .1 .1, s .pre .0 .scale-most)))
 
 returns : tie.Need-returns
 returns c =

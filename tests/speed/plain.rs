@@ -192,9 +192,9 @@ fn fields(bytes: &[u8]) -> Result<Held, Refusal> {
     Ok(Held { head, third, set, sum })
 }
 
-/// f summed over the left of a block less f over the right, and the other way round for T: both go by the bits of its words.
-fn sign(left: u64, right: u64, i: usize) -> i64 {
-    (left >> i) as i64 % 2 - (right >> i) as i64 % 2
+/// The totals over the objects of a set, added.
+fn over(totals: &[i64], set: u64) -> i64 {
+    objects(set).map(|i| totals[i]).sum()
 }
 
 fn root(x: u64) -> u64 {
@@ -244,20 +244,20 @@ pub fn solve(bytes: &[u8], words: &mut [u64], values: &mut [i64], deviations: &m
     }
     words[..2 * b].copy_from_slice(&developed[..2 * b]);
     let mut totals = [0i64; 50];
-    for i in 0..v {
-        for k in 0..b {
-            totals[i] += sign(words[2 * k], words[2 * k + 1], i) * readings[k] as i64;
-        }
+    for k in 0..b {
+        let y = readings[k] as i64;
+        objects(words[2 * k]).for_each(|i| totals[i] += y);
+        objects(words[2 * k + 1]).for_each(|i| totals[i] -= y);
     }
     let totals = &totals[..v];
     let vbeta = v as u64 * (parameters.l2 - parameters.l1);
     let members = set.count_ones() as u64;
-    let over_set: i64 = totals.iter().enumerate().map(|(i, t)| (set >> i) as i64 % 2 * t).sum();
+    let over_set = over(totals, set);
     for i in 0..v {
         values[i] = members as i64 * totals[i] - over_set + vbeta as i64 * sum;
     }
     for k in 0..b {
-        let fitted: i64 = totals.iter().enumerate().map(|(i, t)| sign(words[2 * k], words[2 * k + 1], i) * t).sum();
+        let fitted = over(totals, words[2 * k]) - over(totals, words[2 * k + 1]);
         deviations[k] = vbeta as i64 * readings[k] as i64 - fitted;
     }
     let squared_readings: u64 = readings.iter().map(|&y| (y as i64 * y as i64) as u64).sum();

@@ -1,4 +1,3 @@
--- The laws of a number's bytes as the code puts them and of what a verdict says of the answer, and what determines the outcome of the public function.
-pub mod Numbers
+-- What a verdict says of the answer, and what determines the outcome of the public function.
 pub mod Answers
 pub mod Determined

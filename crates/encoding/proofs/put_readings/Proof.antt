@@ -1,4 +1,4 @@
--- `writing::put_readings` meets its contract. The invariant: the first i readings are written. Assumes nothing.
+-- `encoding::put_readings` meets its contract. The invariant: the first i readings are written. Assumes nothing.
 use mathlib.Core.Path.{_≡_, ap, _∙_}
 use Prim.Native.Nat.{_-_, _≤_}
 use native.Mathlib.Omega.{arith}
@@ -13,9 +13,9 @@ use Rattle.algebra.specs.Buffers.{Wrote}
 use Rattle.algebra.proofs.Writing.{named, kept}
 use Rattle.algebra.proofs.Numbers.{widened-fits}
 use Rattle.meaning.specs.Writing.{bytesOf, wrapped, readingsBody}
-use Rattle.writing.proofs.Numbers.{no-readings, more-readings, bits-short}
-use Rattle.writing.proofs.put_readings.Statement.{statement}
-use Rattle.writing.proofs.put_readings.Tie as tie
+use Rattle.encoding.proofs.Numbers.{no-readings, more-readings, bits-short}
+use Rattle.encoding.proofs.put_readings.Statement.{statement}
+use Rattle.encoding.proofs.put_readings.Tie as tie
 
 abbrev Inv-loop : tie.InvT-loop
 Inv-loop out₀ at readings place₀ i₀ out place i = (i ≤ length readings) × Wrote out₀ at (readingsBody (take i readings)) out place

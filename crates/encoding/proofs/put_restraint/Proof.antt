@@ -1,11 +1,11 @@
--- `writing::put_restraint` meets its contract: the start of the field, the set, the bits of the sum. Assumes nothing.
+-- `encoding::put_restraint` meets its contract: the start of the field, the set, the bits of the sum. Assumes nothing.
 use mathlib.Core.Path.{_≡_, ap, _∙_}
 use borrow.Author.Needs.{needs}
 use mir.Facts.{toZ-ofZ}
 use Rattle.algebra.proofs.Writing.{_then_, named}
 use Rattle.meaning.specs.Writing.{wrapped}
-use Rattle.writing.proofs.put_restraint.Statement.{statement}
-use Rattle.writing.proofs.put_restraint.Tie as tie
+use Rattle.encoding.proofs.put_restraint.Statement.{statement}
+use Rattle.encoding.proofs.put_restraint.Tie as tie
 
 returns : tie.Need-returns
 returns c =

@@ -1,8 +1,8 @@
--- `writing::put_start` meets its contract: the tag, then the length in two bytes. Assumes nothing.
+-- `encoding::put_start` meets its contract: the tag, then the length in two bytes. Assumes nothing.
 use borrow.Author.Needs.{needs}
 use Rattle.algebra.proofs.Writing.{_then_, named}
-use Rattle.writing.proofs.put_start.Statement.{statement}
-use Rattle.writing.proofs.put_start.Tie as tie
+use Rattle.encoding.proofs.put_start.Statement.{statement}
+use Rattle.encoding.proofs.put_start.Tie as tie
 
 returns : tie.Need-returns
 returns c =

@@ -10,15 +10,6 @@ use Rattle.algebra.proofs.Writing.{wrote-determines}
 use Rattle.lines.proofs.put_design as put-design
 use Rattle.lines.proofs.put_design.Kinds as put-design-kinds
 use Rattle.lines.proofs.put_design.Reads as put-design-reads
-use Rattle.lines.proofs.put_value as put-value
-use Rattle.lines.proofs.put_value.Kinds as put-value-kinds
-use Rattle.lines.proofs.put_value.Reads as put-value-reads
-use Rattle.lines.proofs.put_deviation as put-deviation
-use Rattle.lines.proofs.put_deviation.Kinds as put-deviation-kinds
-use Rattle.lines.proofs.put_deviation.Reads as put-deviation-reads
-use Rattle.lines.proofs.put_spread as put-spread
-use Rattle.lines.proofs.put_spread.Kinds as put-spread-kinds
-use Rattle.lines.proofs.put_spread.Reads as put-spread-reads
 use Rattle.lines.proofs.put_refused as put-refused
 use Rattle.lines.proofs.put_refused.Kinds as put-refused-kinds
 use Rattle.lines.proofs.put_refused.Reads as put-refused-reads
@@ -27,21 +18,6 @@ use Rattle.lines.proofs.put_refused.Reads as put-refused-reads
 module _ (κs : Lfts 1) (a : ArgsD put-design.signature κs) (r q : ResD put-design.signature κs) (s t : AtExit (endedOf 1 put-design-kinds.ps put-design-kinds.r) κs) where
   pub put-design-determined : put-design-reads.Post κs a r s → put-design-reads.Post κs a q t → (now (s .0) ≡ now (t .0)) × (r ≡ q)
   put-design-determined p e = wrote-determines p e
-
--- of `put_value`
-module _ (κs : Lfts 1) (a : ArgsD put-value.signature κs) (r q : ResD put-value.signature κs) (s t : AtExit (endedOf 1 put-value-kinds.ps put-value-kinds.r) κs) where
-  pub put-value-determined : put-value-reads.Post κs a r s → put-value-reads.Post κs a q t → (now (s .0) ≡ now (t .0)) × (r ≡ q)
-  put-value-determined p e = wrote-determines p e
-
--- of `put_deviation`
-module _ (κs : Lfts 1) (a : ArgsD put-deviation.signature κs) (r q : ResD put-deviation.signature κs) (s t : AtExit (endedOf 1 put-deviation-kinds.ps put-deviation-kinds.r) κs) where
-  pub put-deviation-determined : put-deviation-reads.Post κs a r s → put-deviation-reads.Post κs a q t → (now (s .0) ≡ now (t .0)) × (r ≡ q)
-  put-deviation-determined p e = wrote-determines p e
-
--- of `put_spread`
-module _ (κs : Lfts 1) (a : ArgsD put-spread.signature κs) (r q : ResD put-spread.signature κs) (s t : AtExit (endedOf 1 put-spread-kinds.ps put-spread-kinds.r) κs) where
-  pub put-spread-determined : put-spread-reads.Post κs a r s → put-spread-reads.Post κs a q t → (now (s .0) ≡ now (t .0)) × (r ≡ q)
-  put-spread-determined p e = wrote-determines p e
 
 -- of `put_refused`
 module _ (κs : Lfts 1) (a : ArgsD put-refused.signature κs) (r q : ResD put-refused.signature κs) (s t : AtExit (endedOf 1 put-refused-kinds.ps put-refused-kinds.r) κs) where

@@ -28,7 +28,8 @@ use Rattle.laws.proofs.Chains.{job}
 use Rattle.laws.proofs.Sizes.{vbeta-most}
 use Rattle.laws.proofs.Files.{file-job}
 use Rattle.printing.proofs.Lengths.{each-length}
-use Rattle.lines.proofs.Lengths.{design-length, value-length, dev-length, spread-length, refused-length}
+use Rattle.figures.proofs.Lengths.{value-length, dev-length, spread-length}
+use Rattle.lines.proofs.Lengths.{design-length, refused-length}
 
 -- the listing of an accepted job
 pub job-length : (h : Head) (d : List ℕ) (y : List ℤ) (w : ℕ) (M : ℤ) → jobVerdict h d y w M ≡ accepted → length (jobText h d y w M) ≤ 51624

@@ -1,9 +1,9 @@
--- `lines::put_last` meets its contract: each arm puts what the last word is for its case. Assumes nothing.
+-- `figures::put_last` meets its contract: each arm puts what the last word is for its case. Assumes nothing.
 use Rattle.meaning.specs.Text.{ascii}
 use Rattle.algebra.proofs.Writing.{named}
 use borrow.Author.Needs.{needs}
-use Rattle.lines.proofs.put_last.Statement.{statement}
-use Rattle.lines.proofs.put_last.Tie as tie
+use Rattle.figures.proofs.put_last.Statement.{statement}
+use Rattle.figures.proofs.put_last.Tie as tie
 
 returns : tie.Need-returns
 returns c =

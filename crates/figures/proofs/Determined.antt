@@ -1,0 +1,33 @@
+-- Any two outcomes that keep the promise of a public function are identical: the lent bytes at exit, and the place. `Post` is the contract itself, as the check reads it
+-- from the source: where a clause of it is dropped or weakened, the theorem fails. Assumes nothing.
+use mathlib.Core.Path.{_≡_}
+use contract.Lifetimes.{Lfts}
+use denote.Ref.{now}
+use denote.Triple.Clauses.{AtExit}
+use borrow.Fn.World.{ArgsD, ResD}
+use borrow.Fn.Kinds.{endedOf}
+use Rattle.algebra.proofs.Writing.{wrote-determines}
+use Rattle.figures.proofs.put_value as put-value
+use Rattle.figures.proofs.put_value.Kinds as put-value-kinds
+use Rattle.figures.proofs.put_value.Reads as put-value-reads
+use Rattle.figures.proofs.put_deviation as put-deviation
+use Rattle.figures.proofs.put_deviation.Kinds as put-deviation-kinds
+use Rattle.figures.proofs.put_deviation.Reads as put-deviation-reads
+use Rattle.figures.proofs.put_spread as put-spread
+use Rattle.figures.proofs.put_spread.Kinds as put-spread-kinds
+use Rattle.figures.proofs.put_spread.Reads as put-spread-reads
+
+-- of `put_value`
+module _ (κs : Lfts 1) (a : ArgsD put-value.signature κs) (r q : ResD put-value.signature κs) (s t : AtExit (endedOf 1 put-value-kinds.ps put-value-kinds.r) κs) where
+  pub put-value-determined : put-value-reads.Post κs a r s → put-value-reads.Post κs a q t → (now (s .0) ≡ now (t .0)) × (r ≡ q)
+  put-value-determined p e = wrote-determines p e
+
+-- of `put_deviation`
+module _ (κs : Lfts 1) (a : ArgsD put-deviation.signature κs) (r q : ResD put-deviation.signature κs) (s t : AtExit (endedOf 1 put-deviation-kinds.ps put-deviation-kinds.r) κs) where
+  pub put-deviation-determined : put-deviation-reads.Post κs a r s → put-deviation-reads.Post κs a q t → (now (s .0) ≡ now (t .0)) × (r ≡ q)
+  put-deviation-determined p e = wrote-determines p e
+
+-- of `put_spread`
+module _ (κs : Lfts 1) (a : ArgsD put-spread.signature κs) (r q : ResD put-spread.signature κs) (s t : AtExit (endedOf 1 put-spread-kinds.ps put-spread-kinds.r) κs) where
+  pub put-spread-determined : put-spread-reads.Post κs a r s → put-spread-reads.Post κs a q t → (now (s .0) ≡ now (t .0)) × (r ≡ q)
+  put-spread-determined p e = wrote-determines p e

@@ -16,7 +16,7 @@ use Rattle.meaning.specs.Calls.{given, jobVerdict, analyseVerdict, solvedUnder,
 use Rattle.meaning.specs.File.{big, twos, numbersAt, headOf, thirdAt, readingsAt, blocksOf, setOf, sumOf, readingsOf, fields, placed, readVerdict, solveVerdict, readAnswer}
 use Rattle.laws.proofs.Files.{read-moved, solve-moved}
 use Rattle.job.proofs.Places.{job-place, analyse-place, file-most, given-placed, solved-placed}
-use Rattle.numbers.proofs.Rows.{take-numbers}
+use Rattle.signed.proofs.Rows.{take-numbers}
 
 -- what stands three bytes after the third field's start is the restraint set
 pub set-part : (s : List ℕ) (third w : ℕ) → third ≡ thirdAt s → w ≡ big s (third + 3) 8 → w ≡ setOf s

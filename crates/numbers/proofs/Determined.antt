@@ -4,7 +4,6 @@ use contract.Lifetimes.{Lfts}
 use borrow.Fn.World.{ArgsD, ResD}
 use denote.Triple.Clauses.{AtExit}
 use borrow.Fn.Kinds.{endedOf}
-use denote.Ref.{now}
 use Rattle.numbers.proofs.byte as byte
 use Rattle.numbers.proofs.byte.Kinds as byte-kinds
 use Rattle.numbers.proofs.byte.Reads as byte-contract
@@ -17,15 +16,6 @@ use Rattle.numbers.proofs.four_bytes.Reads as four-bytes-contract
 use Rattle.numbers.proofs.eight_bytes as eight-bytes
 use Rattle.numbers.proofs.eight_bytes.Kinds as eight-bytes-kinds
 use Rattle.numbers.proofs.eight_bytes.Reads as eight-bytes-contract
-use Rattle.numbers.proofs.signed_32 as signed-32
-use Rattle.numbers.proofs.signed_32.Kinds as signed-32-kinds
-use Rattle.numbers.proofs.signed_32.Reads as signed-32-contract
-use Rattle.numbers.proofs.signed_64 as signed-64
-use Rattle.numbers.proofs.signed_64.Kinds as signed-64-kinds
-use Rattle.numbers.proofs.signed_64.Reads as signed-64-contract
-use Rattle.numbers.proofs.readings as readings
-use Rattle.numbers.proofs.readings.Kinds as readings-kinds
-use Rattle.numbers.proofs.readings.Reads as readings-contract
 
 -- two answers that `byte` may give are the same
 module _ (κs : Lfts 1) (a : ArgsD byte.signature κs) (r q : ResD byte.signature κs) (s t : AtExit (endedOf 1 byte-kinds.ps byte-kinds.r) κs) where
@@ -46,18 +36,3 @@ module _ (κs : Lfts 1) (a : ArgsD four-bytes.signature κs) (r q : ResD four-by
 module _ (κs : Lfts 1) (a : ArgsD eight-bytes.signature κs) (r q : ResD eight-bytes.signature κs) (s t : AtExit (endedOf 1 eight-bytes-kinds.ps eight-bytes-kinds.r) κs) where
   pub eight-bytes-determined : eight-bytes-contract.Post κs a r s → eight-bytes-contract.Post κs a q t → r ≡ q
   eight-bytes-determined p e = p ∙ sym e
-
--- two answers that `signed_32` may give are the same
-module _ (κs : Lfts 1) (a : ArgsD signed-32.signature κs) (r q : ResD signed-32.signature κs) (s t : AtExit (endedOf 1 signed-32-kinds.ps signed-32-kinds.r) κs) where
-  pub signed-32-determined : signed-32-contract.Post κs a r s → signed-32-contract.Post κs a q t → r ≡ q
-  signed-32-determined p e = p ∙ sym e
-
--- two answers that `signed_64` may give are the same
-module _ (κs : Lfts 1) (a : ArgsD signed-64.signature κs) (r q : ResD signed-64.signature κs) (s t : AtExit (endedOf 1 signed-64-kinds.ps signed-64-kinds.r) κs) where
-  pub signed-64-determined : signed-64-contract.Post κs a r s → signed-64-contract.Post κs a q t → r ≡ q
-  signed-64-determined p e = p ∙ sym e
-
--- two rooms that `readings` may leave are the same
-module _ (κs : Lfts 2) (a : ArgsD readings.signature κs) (r q : ResD readings.signature κs) (s t : AtExit (endedOf 2 readings-kinds.ps readings-kinds.r) κs) where
-  pub readings-determined : readings-contract.Post κs a r s → readings-contract.Post κs a q t → now (s .1 .1 .1 .0) ≡ now (t .1 .1 .1 .0)
-  readings-determined p e = p ∙ sym e

@@ -1,5 +1,3 @@
 -- The laws of numbers in bytes, and what the promises determine.
 pub mod Bytes
-pub mod Halves
-pub mod Rows
 pub mod Determined

@@ -1,4 +1,4 @@
--- `numbers::signed_64` meets its contract: below half the bits are the number, and from half on the number is 2 ^ 64 less (`Halves`). At the least number the sum is 0 and the least number.
+-- `signed::signed_64` meets its contract: below half the bits are the number, and from half on the number is 2 ^ 64 less (`Halves`). At the least number the sum is 0 and the least number.
 -- Assumes nothing.
 use native.Mathlib.Omega.{arith}
 use Prim.Native.Nat.{_^_}
@@ -6,9 +6,9 @@ use borrow.Author.Tests.{lt-ltb, le-ltb}
 use mir.Syntax.{w64}
 use mir.ValLaws.{toZ-pos}
 use borrow.Author.Needs.{needs}
-use Rattle.numbers.proofs.Halves.{upper-fits, upper-read}
-use Rattle.numbers.proofs.signed_64.Statement.{statement}
-use Rattle.numbers.proofs.signed_64.Tie as tie
+use Rattle.signed.proofs.Halves.{upper-fits, upper-read}
+use Rattle.signed.proofs.signed_64.Statement.{statement}
+use Rattle.signed.proofs.signed_64.Tie as tie
 
 returns : tie.Need-returns
 returns c =

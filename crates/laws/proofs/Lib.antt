@@ -14,3 +14,6 @@ pub mod Fractions
 pub mod Files
 pub mod Bytes
 pub mod Writing
+pub mod Lengths
+pub mod Enough
+pub mod Cut

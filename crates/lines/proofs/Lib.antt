@@ -1,3 +1,2 @@
--- How long each line is at most, and what determines the outcome of each public function.
-pub mod Lengths
+-- What determines the outcome of each public function.
 pub mod Determined

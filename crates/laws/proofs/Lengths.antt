@@ -1,4 +1,5 @@
--- How long a number's text and lines one after the other are at most. Assumes nothing.
+-- How long the text of a number is at most, each line of the listing (its word, its numbers, a newline), and lines one after the other. Only a deviation's line needs bounds of its
+-- numbers to be short. Assumes nothing.
 use mathlib.Core.Bool.{Bool, true, false, cond}
 use mathlib.Core.Path.{_≡_, refl}
 use mathlib.Core.List.{List, [], _∷_, _++_}
@@ -9,7 +10,11 @@ use lib.Dec.{ltb, lit<}
 use lib.IntN.{ℤ, pos, negsuc, natAbs}
 use lib.ListN.{length, length-append}
 use borrow.Author.Tests.{ltb-false}
-use Rattle.meaning.specs.Text.{digits, spaced, signedText, each}
+use Rattle.meaning.specs.declared.Parameters.{Parameters}
+use Rattle.meaning.specs.declared.Spread.{Spread}
+use Rattle.meaning.specs.declared.Spread.the-variants.{Of, None}
+use Rattle.meaning.specs.declared.Spreading.{Spreading}
+use Rattle.meaning.specs.Text.{ascii, digits, spaced, signedText, each, line, designLine, valueLine, devLine, lastWord, spreadLine}
 
 -- one digit more than the tenth has
 one-longer : (s k n : ℕ) → (10 ≤ n → length (digits s (n / 10)) ≤ k) → length (digits (suc s) n) ≤ suc k
@@ -59,3 +64,33 @@ pub each-length : (n m : ℕ) (f : ℕ → List ℕ) → ((i : ℕ) → i < n �
 unfolding each
 each-length zero m f h = omega arith
 each-length (suc n) m f h = rw (length-append, suc-mul) (omega (arith, each-length n m f (λ i l. h i (omega arith)), h n (omega arith)))
+
+-- the parameters
+pub design-length : (p : Parameters) → length (designLine p) ≤ 133
+unfolding ascii
+design-length p = simp length-append (omega (arith, spaced-most (p .v), spaced-most (p .b), spaced-most (p .r), spaced-most (p .p), spaced-most (p .l1), spaced-most (p .l2)))
+
+-- a value
+pub value-length : (i : ℕ) (a : ℤ) (d : ℕ) (hundredths : ℤ) → length (valueLine i a d hundredths) ≤ 92
+unfolding ascii
+value-length i a d hundredths = simp length-append (omega (arith, spaced-most i, signed-most a, spaced-most d, signed-most hundredths))
+
+-- a deviation, of a block of at most m + 1 digits and a denominator of at most n + 1
+pub dev-length : (m n k : ℕ) (a : ℤ) (d : ℕ) → k < 10 ^ suc m → d < 10 ^ suc n → length (devLine k a d) ≤ m + n + 30
+unfolding ascii
+dev-length m n k a d block denominator = simp length-append (omega (arith, spaced-length m k block, signed-most a, spaced-length n d denominator))
+
+last-length : (s : Spread) (k : ℕ) → length (lastWord s k) ≤ 21
+unfolding ascii
+last-length (Of x f) k = spaced-most k
+last-length None k = omega arith
+
+-- the spread
+pub spread-length : (s : Spreading) → length (spreadLine s) ≤ 91
+unfolding ascii
+spread-length s = simp length-append (omega (arith, spaced-most (s .q), spaced-most (s .vbeta), spaced-most (s .freedom), last-length (s .spread) (s .hundredths)))
+
+-- a refusal
+pub refused-length : (k place : ℕ) → length (line "refused" (spaced k ++ spaced place)) ≤ 50
+unfolding ascii
+refused-length k place = simp length-append (omega (arith, spaced-most k, spaced-most place))

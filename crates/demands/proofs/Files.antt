@@ -11,13 +11,14 @@ use lib.ListN.{length, take, drop}
 use lib.Seq.{take-at, drop-at}
 use Rattle.meaning.specs.declared.Head.{Head}
 use Rattle.meaning.specs.declared.Verdict.{Verdict}
+use Rattle.meaning.specs.declared.JobWritten.{JobWritten}
 use Rattle.meaning.specs.Design.{objects, blocks, sized, listLength, balanced}
 use Rattle.meaning.specs.Refusals.{accepted, refused, test, _⨾_, room, offender, farReading, sumLimit}
 use Rattle.meaning.specs.Calls.{given, jobVerdict}
-use Rattle.meaning.specs.File.{headOf, blocksOf, setOf, sumOf, readingsOf, readVerdict}
+use Rattle.meaning.specs.File.{headOf, blocksOf, setOf, sumOf, readingsOf, fields, placed, readVerdict, readAnswer}
 use Rattle.meaning.specs.Writing.{Bytes, fileOf, fileLength, ReadsAs, writeVerdict, writtenAnswer, writtenAfter}
-use Rattle.laws.proofs.Chains.{opened, accepts, test-yes}
-use Rattle.laws.proofs.Files.{filed, file-job}
+use Rattle.laws.proofs.Chains.{opened, accepts, accepted-last, test-yes}
+use Rattle.laws.proofs.Files.{filed, file-job, read-moved}
 use Rattle.laws.proofs.Writing.{reads-back, file-length, writes-again}
 use Rattle.demands.proofs.Parts.{job-flat}
 
@@ -47,9 +48,9 @@ module _ (h : Head) (d : List ℕ) (y : List ℤ) (w : ℕ) (M : ℤ) where
       after : writtenAfter h d y w M out ≡ fileOf h d y w M ++ drop (fileLength h) out
       after = ap (λ (v : Verdict). given v (fileOf h d y w M ++ drop (fileLength h) out) out) e
 
-      -- the length that is handed back
-      pub write-length : writtenAnswer h d y w M (length out) .length ≡ fileLength h
-      write-length = ap (λ (v : Verdict). given v (fileLength h) 0) e
+      -- what is handed back
+      pub write-answer : writtenAnswer h d y w M (length out) ≡ record { verdict = accepted; length = fileLength h }
+      write-answer = rw e refl
 
       -- the file in front
       pub write-front : take (fileLength h) (writtenAfter h d y w M out) ≡ fileOf h d y w M
@@ -61,7 +62,20 @@ module _ (h : Head) (d : List ℕ) (y : List ℤ) (w : ℕ) (M : ℤ) where
 
       -- what was written reads as the job
       pub write-reads : ReadsAs (take (writtenAnswer h d y w M (length out) .length) (writtenAfter h d y w M out)) h d y w M
-      write-reads = subst (λ (s : List ℕ). ReadsAs s h d y w M) (sym (ap (λ (c : ℕ). take c (writtenAfter h d y w M out)) write-length ∙ write-front)) (reads-back h d y w M write-job)
+      write-reads = subst (λ (s : List ℕ). ReadsAs s h d y w M) (sym (ap (λ (r : JobWritten). take (r .length) (writtenAfter h d y w M out)) write-answer ∙ write-front)) (reads-back h d y w M write-job)
+
+  -- what the call that reads answers on a file that reads as a job
+  pub reads-answer : (s : List ℕ) → ReadsAs s h d y w M → readAnswer s ≡ record { verdict = accepted; head = h; «blocks_at» = 10; «readings_at» = 32 + listLength h; set = w; sum = M }
+  reads-answer s r = rw (r .accepts, r .head, r .set, r .sum) (ap (λ (at : ℕ). record { verdict = accepted; head = h; «blocks_at» = 10; «readings_at» = at; set = w; sum = M }) (omega (arith, ap listLength (r .head))))
+
+-- reading and writing refuse alike what stands in well-formed fields
+pub checks-alike : (s : List ℕ) (len : ℕ) → fields s ≡ accepted → length s ≤ len →
+    readVerdict s ≡ placed s (writeVerdict (headOf s) (blocksOf s) (readingsOf s) (setOf s) (sumOf s) len)
+unfolding writeVerdict
+checks-alike s len e l =
+    let enough : room len (fileLength (headOf s)) ≡ accepted = test-yes (leb (fileLength (headOf s)) len) 10 0 (le-leb (fileLength (headOf s)) len (omega (arith, filed s e .ends, l))) in
+    let job = jobVerdict (headOf s) (blocksOf s) (readingsOf s) (setOf s) (sumOf s) in
+    read-moved s e ∙ ap (placed s) (sym (ap (λ (v : Verdict). job ⨾ v) enough ∙ accepted-last job))
 
 -- a job that was read is written as it was, where there is room
 module _ (s out : List ℕ) (b : Bytes s) (e : readVerdict s ≡ accepted) (l : length s ≤ length out) where
@@ -71,6 +85,9 @@ module _ (s out : List ℕ) (b : Bytes s) (e : readVerdict s ≡ accepted) (l : 
   pub read-write : writeVerdict (headOf s) (blocksOf s) (readingsOf s) (setOf s) (sumOf s) (length out) ≡ accepted
   unfolding writeVerdict
   read-write = accepts (file-job s e .1) (test-yes (leb (fileLength (headOf s)) (length out)) 10 0 (le-leb (fileLength (headOf s)) (length out) (omega (arith, long))))
+
+  pub read-answer : writtenAnswer (headOf s) (blocksOf s) (readingsOf s) (setOf s) (sumOf s) (length out) ≡ record { verdict = accepted; length = length s }
+  read-answer = write-answer (headOf s) (blocksOf s) (readingsOf s) (setOf s) (sumOf s) out read-write ∙ ap (λ (c : ℕ). record { verdict = accepted; length = c }) long
 
   pub read-front : take (length s) (writtenAfter (headOf s) (blocksOf s) (readingsOf s) (setOf s) (sumOf s) out) ≡ s
   read-front =

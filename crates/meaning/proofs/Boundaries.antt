@@ -454,6 +454,7 @@ writingRows =
     ∷ refuses (writeVerdict three pair ys 7 (negsuc 1) 47) 0 0
     ∷ holding (writtenAnswer three pair ys 7 (negsuc 1) 47 .length ∷ writtenAnswer three pair ys 7 (negsuc 1) 45 .length ∷ writtenAnswer three pair far 7 (negsuc 1) 47 .length ∷ []) (46 ∷ 0 ∷ 0 ∷ [])
     ∷ refuses (writtenAnswer three pair far 7 (negsuc 1) 47 .verdict) 8 1
+    ∷ refuses (writtenAnswer three pair ys 7 (negsuc 1) 47 .verdict) 0 0
     ∷ holding (writtenAfter three pair ys 7 (negsuc 1) (replicate 48 77)) (fileThree ++ (77 ∷ 77 ∷ []))
     ∷ holding (writtenAfter three pair ys 7 (negsuc 1) (replicate 45 77)) (replicate 45 77)
     ∷ holding (writtenAfter four pair ys4 7 (negsuc 1) (replicate 60 77)) (replicate 60 77)

@@ -83,7 +83,10 @@ fn compared(draft: &Draft) -> Result<String, String> {
             Ok("written".to_string())
         }
         Some(Refusal { number, place }) => {
-            same("a refused job", written(draft, 7000), (Err((number, place as u64)), vec![UNTOUCHED; 7000]))?;
+            // the room is looked at last: with none at all the refusal is the same
+            for room in [7000, 0] {
+                same(&format!("a refused job, room for {room} bytes"), written(draft, room), (Err((number, place as u64)), vec![UNTOUCHED; room]))?;
+            }
             Ok(format!("refused {number}"))
         }
     }

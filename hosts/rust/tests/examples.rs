@@ -75,9 +75,18 @@ fn example_a_is_written() {
 
 #[test]
 fn what_is_written_reads_as_the_job() {
-    let file = write(A, &BLOCKS_OF_A, 0b10001, -1_000_000_000, &[200_000, -200_000, 0, 1, -1]).unwrap();
-    assert_eq!((file.len(), &file[25..33]), (56, &(-1_000_000_000i64).to_be_bytes()[..]));
-    assert_eq!(solve(&file).unwrap().solved.denominator, 10);
+    let readings = [200_000, -200_000, 0, 1, -1];
+    let file = write(A, &BLOCKS_OF_A, 0b10001, -1_000_000_000, &readings).unwrap();
+    let mut expected = vec![1, 0, 4, 5, 0, 2, 1, 2, 0, 4, 1, 4, 2, 3, 3, 0, 16];
+    expected.extend(0b10001u64.to_be_bytes());
+    expected.extend((-1_000_000_000i64).to_be_bytes());
+    expected.extend([4, 0, 20]);
+    expected.extend(readings.iter().flat_map(|reading: &i32| reading.to_be_bytes()));
+    assert_eq!(file, expected);
+    // the restrained objects 0 and 4 add to M
+    let job = solve(&file).unwrap();
+    assert_eq!(job.solved.denominator, 10);
+    assert_eq!(job.values[0] + job.values[4], -1_000_000_000 * 10);
 }
 
 #[test]

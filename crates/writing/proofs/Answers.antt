@@ -11,12 +11,23 @@ use Rattle.algebra.specs.Buffers.{Wrote}
 use Rattle.algebra.proofs.Writing.{counts, in-front}
 use Rattle.meaning.specs.declared.Head.{Head}
 use Rattle.meaning.specs.declared.JobWritten.{JobWritten}
+use Rattle.meaning.specs.Design.{blocks, listLength}
 use Rattle.meaning.specs.Refusals.{accepted, refused, room}
 use Rattle.meaning.specs.Calls.{jobVerdict}
 use Rattle.meaning.specs.Writing.{fileOf, fileLength, writeVerdict, writtenAnswer, writtenAfter}
 use Rattle.laws.specs.Fits.{Fits}
 use Rattle.laws.proofs.Chains.{opened, held, job}
 use Rattle.laws.proofs.Writing.{file-length}
+
+-- the sizes fit, and the slices have the lengths that go with them
+abbrev pub Laid : Head → List ℕ → List ℤ → Type 0
+Laid h d y = (Fits h) × (length d ≡ listLength h) × (length y ≡ blocks h)
+
+-- so it is in an accepted job
+pub laid : (h : Head) (d : List ℕ) (y : List ℤ) (w : ℕ) (M : ℤ) → jobVerdict h d y w M ≡ accepted → Laid h d y
+laid h d y w M e =
+    let measures = job h d y w M e .measures in
+    (measures .design .sizes, measures .design .long, measures .readings .readings-long)
 
 module _ (h : Head) (d : List ℕ) (y : List ℤ) (w : ℕ) (M : ℤ) (out : List ℕ) where
   -- the answer and the room after are those of writing
@@ -32,9 +43,9 @@ module _ (h : Head) (d : List ℕ) (y : List ℤ) (w : ℕ) (M : ℤ) (out : Lis
     unfolding writeVerdict
     both = opened _ _ e
 
-    -- accepted: the sizes fit
-    pub sizes-fit : Fits h
-    sizes-fit = job h d y w M (both .0) .measures .design .sizes
+    -- accepted: the sizes fit, and the slices have their lengths
+    pub fitting : Laid h d y
+    fitting = laid h d y w M (both .0)
 
     -- and the file stands in front, as many bytes as were put
     pub written : {after : List ℕ} {r : ℕ} → Wrote out 0 (fileOf h d y w M) after r → length out < 18446744073709551615 → Written (record { verdict = accepted; length = r }) after

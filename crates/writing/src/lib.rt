@@ -8,9 +8,11 @@ use meaning::Verdict;
 use printing::put_text;
 use refusals::refusal;
 ghost use mathlib.Core.Path.{_≡_};
+ghost use Prim.Native.Nat.{_*_};
 ghost use lib.ListN.{length};
 ghost use Rattle.algebra.specs.Buffers.{Wrote};
 ghost use Rattle.laws.specs.Fits.{Fits};
+ghost use Rattle.meaning.specs.Design.{listLength};
 ghost use Rattle.meaning.specs.Refusals.{_⨾_, room};
 ghost use Rattle.meaning.specs.Calls.{jobVerdict};
 ghost use Rattle.meaning.specs.Writing.{fieldBytes, sizesBody, fileOf, fileLength, writtenAnswer, writtenAfter};
@@ -27,27 +29,15 @@ pub fn write(
     ensures { λ r. ⌜ r ≡ writtenAnswer head (now (blocks .entry)) (now (readings .entry)) set sum (length (now (out .entry))) ⌝ }
     ensures { λ _. ⌜ now (out .exit) ≡ writtenAfter head (now (blocks .entry)) (now (readings .entry)) set sum (now (out .entry)) ⌝ }
 {
-    if let Verdict::Refused(number, place) = write_refusal(
-        head,
-        blocks,
-        set,
-        sum,
-        readings,
-        out.len(),
-    ) {
-        return JobWritten {
-            verdict: Verdict::Refused(number, place),
-            length: 0,
-        };
+    let verdict = write_refusal(head, blocks, set, sum, readings, out.len());
+    let mut length = 0;
+    if let Verdict::Accepted = verdict {
+        length = put_file(out, head, blocks, set, sum, readings);
     }
-    let length = put_file(out, head, blocks, set, sum, readings);
-    JobWritten {
-        verdict: Verdict::Accepted,
-        length,
-    }
+    JobWritten { verdict, length }
 }
 
-// Why nothing is written, or that the job is accepted and `space` bytes are enough. The room is looked at last.
+// Why nothing is written, or that the job is accepted and `space` bytes are enough. The room is looked at last: then the lists have the lengths that go with the sizes.
 fn write_refusal(
     head: Head,
     blocks: &[u8],
@@ -58,15 +48,14 @@ fn write_refusal(
 ) -> Verdict
     ensures { λ r. ⌜ r ≡ jobVerdict head (now (blocks .entry)) (now (readings .entry)) set sum ⨾ room space (fileLength head) ⌝ }
 {
-    if let Verdict::Refused(number, place) = refusal(head, blocks, readings, set, sum) {
-        return Verdict::Refused(number, place);
+    let verdict = refusal(head, blocks, readings, set, sum);
+    if let Verdict::Accepted = verdict {
+        let length = 32 + blocks.len() + 4 * readings.len();
+        if space < length {
+            return Verdict::Refused(10, 0);
+        }
     }
-    let list = 2 * head.p * head.m;
-    let length = 32 + list + 4 * (head.m * head.n);
-    if space < length {
-        return Verdict::Refused(10, 0);
-    }
-    Verdict::Accepted
+    verdict
 }
 
 // The four fields from the front on, as far as there is room.
@@ -78,14 +67,14 @@ fn put_file(
     sum: i64,
     readings: &[i32],
 ) -> usize
-    requires { ⌜ Fits head ⌝ }
+    requires { ⌜ (Fits head) × (length (now blocks) ≡ listLength head) × (length (now readings) ≡ head .m * head .n) ⌝ }
     ensures { λ r. ⌜ Wrote (now (out .entry)) 0 (fileOf head (now (blocks .entry)) (now (readings .entry)) set sum) (now (out .exit)) r ⌝ }
 {
     let second = put_sizes(out, 0, head);
-    let blocks_at = put_start(out, second, 2, 2 * head.p * head.m);
+    let blocks_at = put_start(out, second, 2, blocks.len());
     let third = put_text(out, blocks_at, blocks);
     let fourth = put_restraint(out, third, set, sum);
-    let readings_at = put_start(out, fourth, 4, 4 * (head.m * head.n));
+    let readings_at = put_start(out, fourth, 4, 4 * readings.len());
     put_readings(out, readings_at, readings)
 }
 

@@ -8,8 +8,7 @@ use mir.Facts.{toZ-ofZ}
 use Rattle.meaning.specs.declared.Verdict.{Verdict}
 use Rattle.meaning.specs.Refusals.{accepted}
 use Rattle.meaning.specs.Writing.{writeVerdict}
-use Rattle.laws.specs.Fits.{Fits}
-use Rattle.writing.proofs.Answers.{unwritten, sizes-fit, written}
+use Rattle.writing.proofs.Answers.{Laid, unwritten, fitting, written}
 use Rattle.writing.proofs.write.Statement.{statement}
 use Rattle.writing.proofs.write.Tie as tie
 
@@ -28,25 +27,26 @@ module _ (c : tie.After-write-refusal) where
 passed : (c : tie.After-enum-told) → verdict (c .before .before .before .before .before) ≡ accepted
 passed c = sym (told (c .before .before)) ∙ c .enum-told .given .1
 
--- so the sizes fit
-fits : (c : tie.After-enum-told) → Fits (c .before .before .before .before .before .args .head)
+-- so the sizes fit, and the slices have their lengths
+fits : (c : tie.After-enum-told) → let a = c .before .before .before .before .before .args in Laid (a .head) (now (a .blocks)) (now (a .readings))
 fits c =
     let a = c .before .before .before .before .before .args in
-    sizes-fit (a .head) (now (a .blocks)) (now (a .readings)) (a .set) (a .sum) (now (a .out)) (passed c)
+    fitting (a .head) (now (a .blocks)) (now (a .readings)) (a .set) (a .sum) (now (a .out)) (passed c)
 
 returns : tie.Need-returns
 returns c =
-    let a = c .before .before .before .before .before .before .args in
-    let w = unwritten (a .head) (now (a .blocks)) (now (a .readings)) (a .set) (a .sum) (now (a .out)) _ _ (sym (told (c .before .before .before)) ∙ c .before .number .given .1) in
-    (search needs, search needs)
-
-returns-2 : tie.Need-returns-2
-returns-2 c =
     let put = c .before .before in
     let s = put .before .before .before .before .before .before .before in
     let a = s .args in
     let w = written (a .head) (now (a .blocks)) (now (a .readings)) (a .set) (a .sum) (now (a .out)) (passed (put .before .before)) (rw (toZ-ofZ (s .fits .sum)) at (put .put-file .ensures)) (omega arith) in
-    (search needs, search needs)
+    rw (put .before .before .enum-told .given .1) (search needs, search needs)
+
+returns-2 : tie.Need-returns-2
+returns-2 c =
+    let a = c .before .before .before .before .before .args in
+    let r = c .enum-told2 .given in
+    let w = unwritten (a .head) (now (a .blocks)) (now (a .readings)) (a .set) (a .sum) (now (a .out)) _ _ (sym (told (c .before .before)) ∙ r .1) in
+    rw (r .1) (search needs, search needs)
 
 pub write-spec : {M : Type 1} → statement M
 write-spec =
@@ -54,8 +54,8 @@ write-spec =
     (tie.spec
     (λ c κs. tt)
     (λ c. search needs)
-    returns
-    (λ c. search needs)
     (λ c κs. fits (c .before))
     (λ c. search needs)
+    (λ c. search needs)
+    returns
     returns-2)

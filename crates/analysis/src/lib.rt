@@ -39,6 +39,7 @@ pub fn analyse(
     ensures { λ r. ⌜ now (values .exit) ≡ valuesUnder (analyseVerdict head (now (blocks .entry)) (now (readings .entry)) set sum (length (now (words .entry))) (length (now (values .entry))) (length (now (deviations .entry)))) head (now (blocks .entry)) (now (readings .entry)) set sum (now (values .entry)) ⌝ }
     ensures { λ r. ⌜ now (deviations .exit) ≡ deviationsUnder (analyseVerdict head (now (blocks .entry)) (now (readings .entry)) set sum (length (now (words .entry))) (length (now (values .entry))) (length (now (deviations .entry)))) head (now (blocks .entry)) (now (readings .entry)) (now (deviations .entry)) ⌝ }
 {
+    let mut developed = [0u64; 2600];
     let judged = judged_with_rooms(
         head,
         blocks,
@@ -48,6 +49,7 @@ pub fn analyse(
         words.len(),
         values.len(),
         deviations.len(),
+        &mut developed,
     );
     let verdict = judged.verdict;
     if let Verdict::Refused(_, _) = verdict {

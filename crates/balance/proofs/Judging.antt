@@ -1,7 +1,7 @@
 -- The judgement, by what its tests gave: the test over two tables is the test of balance, and each way out of the call has its answer.
 --     pair-company-other, pair-opposition-other, pair-even    the test of one pair
 --     tables-more, tables-fail                                one turn of the test over two tables
---     room-enough, company-left, opposition-left              what the counting leaves
+--     room-enough, words-left, company-left, opposition-left  what the counting leaves
 --     tables-tell, side-size                                  what the tables and the words of an accepted block list say
 --     tables-refused, tables-accepted                         the judgement over two tables
 --     judged-refused, judged-accepted                         the answer of the call
@@ -14,7 +14,7 @@ use native.Mathlib.Nat.{add-le-add, mul-le-mul}
 use native.Mathlib.Omega.{arith}
 use borrow.Author.Tests.{eq-eqb, ne-eqb, le-leb}
 use lib.Dec.{eqb}
-use lib.ListN.{getD}
+use lib.ListN.{length, getD}
 use Rattle.algebra.specs.Ranges.{sumℕ}
 use Rattle.algebra.specs.Buffers.{over}
 use Rattle.algebra.proofs.Filling.{getD-over}
@@ -86,26 +86,31 @@ module _ (h : Head) (d : List ℕ) (s : Sound h d) where
   unfolding tablesEven balanced
   tables-balanced = all-cong (objects h) _ _ (λ i l. all-cong i _ _ (λ j m. ap₂ _&&_ (same (company h d) i j l m) (same (opposition h d) i j l m)))
 
--- ---- what the counting leaves in 2600 words and in two tables of zeros
+-- ---- what the counting leaves in a room of 2600 words and in two tables of zeros
 
-module _ (h : Head) (d : List ℕ) where
+module _ (h : Head) (d : List ℕ) {len : ℕ} (whole : len ≡ 2600) where
   -- room for 2600 words is always enough
-  pub room-enough : developVerdict h d 2600 ≡ designVerdict h d
+  pub room-enough : developVerdict h d len ≡ designVerdict h d
   unfolding developVerdict
   room-enough = by (designVerdict h d) refl
     where
-      by : (a : Verdict) → designVerdict h d ≡ a → a ⨾ room 2600 (2 * blocks h) ≡ a
-      by Accepted e = ap (λ (t : Bool). test t 10 0) (le-leb (2 * blocks h) 2600 (let f = sound h d e .sizes in omega arith))
+      by : (a : Verdict) → designVerdict h d ≡ a → a ⨾ room len (2 * blocks h) ≡ a
+      by Accepted e = ap (λ (t : Bool). test t 10 0) (le-leb (2 * blocks h) len (let f = sound h d e .sizes in omega arith))
       by (Refused k at) e = refl
 
+  -- the words are those of the design
+  pub words-left : (z : List ℕ) {w : List ℕ} → w ≡ wordsUnder (developVerdict h d len) h d z → w ≡ wordsUnder (designVerdict h d) h d z
+  words-left z e = e ∙ ap (λ (v : Verdict). wordsUnder v h d z) room-enough
+
   -- the first table, of zeros before, is the table of company
-  pub company-left : {z t : List (List ℕ)} → z ≡ noTable → t ≡ companyUnder (developVerdict h d 2600) h d z → t ≡ companyTable h d
+  pub company-left : {z t : List (List ℕ)} → z ≡ noTable → t ≡ companyUnder (developVerdict h d len) h d z → t ≡ companyTable h d
   company-left z e = e ∙ ap₂ (λ (v : Verdict) (u : List (List ℕ)). companyUnder v h d u) room-enough z
 
   -- the second is the table of opposition
-  pub opposition-left : {z t : List (List ℕ)} → z ≡ noTable → t ≡ oppositionUnder (developVerdict h d 2600) h d z → t ≡ oppositionTable h d
+  pub opposition-left : {z t : List (List ℕ)} → z ≡ noTable → t ≡ oppositionUnder (developVerdict h d len) h d z → t ≡ oppositionTable h d
   opposition-left z e = e ∙ ap₂ (λ (v : Verdict) (u : List (List ℕ)). oppositionUnder v h d u) room-enough z
 
+module _ (h : Head) (d : List ℕ) where
   -- no two objects oppose more often than twice a block
   opposition-most : Sound h d → (i j : ℕ) → opposition h d i j ≤ blocks h * 2
   unfolding opposition
@@ -120,24 +125,24 @@ module _ (h : Head) (d : List ℕ) where
 -- ---- an accepted block list, by the words and the two tables that were left
 module _ (h : Head) (d : List ℕ) (e : designVerdict h d ≡ accepted) where
   -- the ones of the first word are the size of a side
-  pub side-size : {ws : List ℕ} → ws ≡ wordsUnder (developVerdict h d 2600) h d (replicate 2600 0) → sumℕ 64 (bit (getD ws 0 0)) ≡ h .p
+  pub side-size : (z : List ℕ) {ws : List ℕ} → length z ≡ 2600 → ws ≡ wordsUnder (designVerdict h d) h d z → sumℕ 64 (bit (getD ws 0 0)) ≡ h .p
   unfolding wordAt
-  side-size w =
+  side-size z whole w =
       let s = sound h d e in
       let fit = s .sizes in
       let some : 1 ≤ h .n = omega arith in
       let first : 0 < blocks h = mul-le-mul (fit .m-least) some in
-      ap (λ (t : List ℕ). sumℕ 64 (bit (getD t 0 0))) (w ∙ ap (λ (v : Verdict). wordsUnder v h d (replicate 2600 0)) (room-enough h d ∙ e))
-      ∙ ap (λ (x : ℕ). sumℕ 64 (bit x)) (getD-over (2 * blocks h) (wordAt h d) (replicate 2600 0) 0 0 (omega arith) (omega arith))
+      ap (λ (t : List ℕ). sumℕ 64 (bit (getD t 0 0))) (w ∙ given-yes (designVerdict h d) _ _ e)
+      ∙ ap (λ (x : ℕ). sumℕ 64 (bit x)) (getD-over (2 * blocks h) (wordAt h d) z 0 0 (omega arith) (omega arith))
       ∙ ones-word (left h d 0) (λ x. omega (arith, block-once h d s 0 first x)) (λ k l. omega (arith, left-objects h d s 0 first k l))
       ∙ left-length h d s 0 first
 
-  module _ {c o : List (List ℕ)} (p : c ≡ companyUnder (developVerdict h d 2600) h d noTable) (q : o ≡ oppositionUnder (developVerdict h d 2600) h d noTable) where
+  module _ {c o : List (List ℕ)} (p : c ≡ companyTable h d) (q : o ≡ oppositionTable h d) where
     company-is : c ≡ tableOf (objects h) (company h d)
-    company-is = company-left h d refl p ∙ given-yes (designVerdict h d) _ _ e
+    company-is = p ∙ given-yes (designVerdict h d) _ _ e
 
     opposition-is : o ≡ tableOf (objects h) (opposition h d)
-    opposition-is = opposition-left h d refl q ∙ given-yes (designVerdict h d) _ _ e
+    opposition-is = q ∙ given-yes (designVerdict h d) _ _ e
 
     -- the test over them is the test of balance
     pub tables-tell : tablesEven c o (objects h) ≡ balanced h d

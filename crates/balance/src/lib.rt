@@ -5,7 +5,7 @@ use meaning::Parameters;
 use meaning::Verdict;
 ghost use mathlib.Core.Path.{_≡_};
 ghost use Prim.Native.Nat.{_-_, _≤_};
-ghost use Rattle.meaning.specs.Calls.{companyTable, oppositionTable, judged, noParameters};
+ghost use Rattle.meaning.specs.Calls.{companyTable, oppositionTable, designVerdict, wordsUnder, judged, noParameters};
 ghost use Rattle.meaning.specs.Refusals.{refused};
 ghost use Rattle.pairs.specs.Meetings.{entry};
 ghost use Rattle.balance.specs.Tables.{pairTable, rowEven, tablesEven, tablesJudged};
@@ -28,13 +28,21 @@ pub fn opposition(head: Head, blocks: &[u8]) -> [[u64; 50]; 50]
 pub fn judge(head: Head, blocks: &[u8]) -> Judged
     ensures { λ r. ⌜ r ≡ judged head (now (blocks .entry)) ⌝ }
 {
-    let mut words = [0u64; 2600];
+    let mut developed = [0u64; 2600];
+    judge_developed(head, blocks, &mut developed)
+}
+
+// The same, and the design's words are left in `developed`, a room for working: they stand there wherever the block list could be developed, balanced or not.
+pub fn judge_developed(head: Head, blocks: &[u8], developed: &mut [u64; 2600]) -> Judged
+    ensures { λ r. ⌜ r ≡ judged head (now (blocks .entry)) ⌝ }
+    ensures { λ _. ⌜ now (developed .exit) ≡ wordsUnder (designVerdict head (now (blocks .entry))) head (now (blocks .entry)) (now (developed .entry)) ⌝ }
+{
     let mut company = [[0u64; 50]; 50];
     let mut opposition = [[0u64; 50]; 50];
     if let Verdict::Refused(number, at) = pairs::tables(
         head,
         blocks,
-        &mut words,
+        developed,
         &mut company,
         &mut opposition,
     ) {
@@ -42,7 +50,7 @@ pub fn judge(head: Head, blocks: &[u8]) -> Judged
     }
     let v = head.n + head.flag;
     let b = head.m * head.n;
-    let p = words::ones(words[0]);
+    let p = words::ones(developed[0]);
     judge_tables(v, b, p, &company, &opposition)
 }
 

@@ -9,13 +9,14 @@ use borrow.Author.Tests.{lt-ltb, le-leb}
 use lib.Dec.{leb, ltb}
 use lib.Pow.{pow-pos}
 use lib.IntN.{ℤ, natAbs}
+use Rattle.algebra.specs.Buffers.{over}
 use Rattle.algebra.proofs.Tests.{and-both}
 use Rattle.meaning.specs.declared.Head.{Head}
 use Rattle.meaning.specs.declared.Verdict.{Verdict}
-use Rattle.meaning.specs.Design.{objects}
+use Rattle.meaning.specs.Design.{objects, blocks}
 use Rattle.meaning.specs.Refusals.{_⨾_, accepted, refused, sumLimit, clean, inBalance, restraint, inReach}
-use Rattle.meaning.specs.Calls.{slices, contents, jobVerdict, judgeVerdict, judged}
-use Rattle.laws.proofs.Chains.{Restraint, restrains, test-yes, test-no, accepts, goes-on, refused-stays}
+use Rattle.meaning.specs.Calls.{wordAt, wordsUnder, designVerdict, slices, contents, jobVerdict, judgeVerdict, judged}
+use Rattle.laws.proofs.Chains.{Restraint, restrains, test-yes, test-no, opened, accepts, goes-on, refused-stays, given-yes, given-no}
 use Rattle.readings.proofs.Answers.{design-clean}
 use Rattle.refusals.specs.Judgement.{judgedUnder, noJudgement}
 
@@ -46,6 +47,26 @@ restrained-no h w M n = by (ltb 0 w && ltb w (2 ^ objects h) && leb (natAbs M) s
     by : (t : Bool) → ltb 0 w && ltb w (2 ^ objects h) && leb (natAbs M) sumLimit ≡ t → restraint h w M ≡ refused 7 0
     by true e = absurd (n (restrains h w M (test-yes _ 7 0 e)))
     by false e = test-no _ 7 0 e
+
+-- ---- the words that are left
+
+module _ (h : Head) (d : List ℕ) (y : List ℤ) (before : List ℕ) where
+  -- the sizes or a length is refused: the room is as it was
+  pub words-stay : (k at : ℕ) → slices h d y ≡ refused k at → before ≡ wordsUnder (slices h d y ⨾ clean h d) h d before
+  words-stay k at e = sym (given-no (slices h d y ⨾ clean h d) _ before k at (refused-stays _ k at e))
+
+  -- past the lengths, the words are those of the judgement
+  pub words-developed : {words : List ℕ} → slices h d y ≡ accepted → words ≡ wordsUnder (designVerdict h d) h d before → words ≡ wordsUnder (slices h d y ⨾ clean h d) h d before
+  words-developed s e = e ∙ ap (λ (v : Verdict). wordsUnder v h d before) (design-clean h d y s ∙ sym (goes-on (clean h d) s))
+
+  -- of an accepted job they are the developed ones
+  pub job-developed : (w : ℕ) (M : ℤ) {words : List ℕ} → jobVerdict h d y w M ≡ accepted → words ≡ wordsUnder (slices h d y ⨾ clean h d) h d before
+      → words ≡ over (2 * blocks h) (wordAt h d) before
+  unfolding jobVerdict contents
+  job-developed w M e f =
+      let a = opened (slices h d y) _ e in
+      let c = opened (clean h d) _ (opened (clean h d ⨾ inBalance h d) _ (opened _ (inReach y) (a .1) .0) .0) in
+      f ∙ given-yes (slices h d y ⨾ clean h d) _ before (accepts (a .0) (c .0))
 
 -- ---- the whole job
 

@@ -1,5 +1,5 @@
 // The tests of a whole job, in the request's order: the design is judged once, and the judgement handed on.
-use balance::judge;
+use balance::judge_developed;
 use meaning::Head;
 use meaning::Judged;
 use meaning::Parameters;
@@ -8,26 +8,36 @@ use readings::reach_refusal;
 use readings::slices_refusal;
 ghost use mathlib.Core.Path.{_≡_};
 ghost use Rattle.laws.specs.Fits.{Fits};
-ghost use Rattle.meaning.specs.Refusals.{refused, restraint};
-ghost use Rattle.meaning.specs.Calls.{jobVerdict, rooms, analyseVerdict};
+ghost use Rattle.meaning.specs.Refusals.{_⨾_, refused, clean, restraint};
+ghost use Rattle.meaning.specs.Calls.{wordsUnder, slices, jobVerdict, rooms, analyseVerdict};
 ghost use Rattle.refusals.specs.Judgement.{judgedUnder, noJudgement};
 
 // Why a whole job is refused, or that it is accepted: 4 to 8, with no room.
 pub fn refusal(head: Head, blocks: &[u8], readings: &[i32], set: u64, sum: i64) -> Verdict
     ensures { λ r. ⌜ r ≡ jobVerdict head (now (blocks .entry)) (now (readings .entry)) set sum ⌝ }
 {
-    let judged = judged_job(head, blocks, readings, set, sum);
+    let mut developed = [0u64; 2600];
+    let judged = judged_job(head, blocks, readings, set, sum, &mut developed);
     judged.verdict
 }
 
-// The verdict on a whole job, with the parameters of its design where it is accepted.
-pub fn judged_job(head: Head, blocks: &[u8], readings: &[i32], set: u64, sum: i64) -> Judged
+// The verdict on a whole job, with the parameters of its design where it is accepted. `developed` is a room for working and no answer: the design's words are
+// written there once its bytes are accepted, also where a later test refuses.
+pub fn judged_job(
+    head: Head,
+    blocks: &[u8],
+    readings: &[i32],
+    set: u64,
+    sum: i64,
+    developed: &mut [u64; 2600],
+) -> Judged
     ensures { λ r. ⌜ r ≡ judgedUnder (jobVerdict head (now (blocks .entry)) (now (readings .entry)) set sum) head (now (blocks .entry)) ⌝ }
+    ensures { λ _. ⌜ now (developed .exit) ≡ wordsUnder (slices head (now (blocks .entry)) (now (readings .entry)) ⨾ clean head (now (blocks .entry))) head (now (blocks .entry)) (now (developed .entry)) ⌝ }
 {
     if let Verdict::Refused(number, at) = slices_refusal(head, blocks, readings) {
         return no_judgement(number, at);
     }
-    let judged = judge(head, blocks);
+    let judged = judge_developed(head, blocks, developed);
     let verdict = judged.verdict;
     if let Verdict::Refused(number, at) = verdict {
         return no_judgement(number, at);
@@ -41,7 +51,8 @@ pub fn judged_job(head: Head, blocks: &[u8], readings: &[i32], set: u64, sum: i6
     judged
 }
 
-// The same with the rooms for the words, the values and the deviations, of the lengths given: they are looked at after everything else.
+// The same with the rooms for the words, the values and the deviations, of the lengths given: they are looked at after everything else. `developed` is a room
+// for working and no answer here too: the design's words are written there once its bytes are accepted, also where a later test refuses.
 pub fn judged_with_rooms(
     head: Head,
     blocks: &[u8],
@@ -51,10 +62,12 @@ pub fn judged_with_rooms(
     words: usize,
     values: usize,
     deviations: usize,
+    developed: &mut [u64; 2600],
 ) -> Judged
     ensures { λ r. ⌜ r ≡ judgedUnder (analyseVerdict head (now (blocks .entry)) (now (readings .entry)) set sum words values deviations) head (now (blocks .entry)) ⌝ }
+    ensures { λ r. ⌜ now (developed .exit) ≡ wordsUnder (slices head (now (blocks .entry)) (now (readings .entry)) ⨾ clean head (now (blocks .entry))) head (now (blocks .entry)) (now (developed .entry)) ⌝ }
 {
-    let judged = judged_job(head, blocks, readings, set, sum);
+    let judged = judged_job(head, blocks, readings, set, sum, developed);
     let verdict = judged.verdict;
     if let Verdict::Refused(number, place) = verdict {
         return no_judgement(number, place);

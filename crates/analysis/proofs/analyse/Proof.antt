@@ -40,10 +40,10 @@ module _ (s : tie.Start) where
 -- what the judgement says
 module _ (c : tie.After-judged-with-rooms) where
   abbrev start : tie.Start
-  start = c .before .before .before
+  start = c .before .before .before .before
 
   judgement : c .judged-with-rooms .result ≡ judgedUnder (verdict start) (head start) (bytes start)
-  judgement = rw (toZ-ofZ (start .fits .sum)) at (c .judged-with-rooms .ensures)
+  judgement = rw (toZ-ofZ (start .fits .sum)) at (c .judged-with-rooms .ensures .0)
 
   judged-verdict : c .judged-with-rooms .result .verdict ≡ verdict start
   judged-verdict = ap (λ (r : Judged). r .verdict) judgement

@@ -1,4 +1,4 @@
--- `judged_with_rooms`: each way out is the verdict of the tests that led there. Assumes nothing.
+-- `judged_with_rooms`: each way out is the verdict of the tests that led there; the words are those that the job's judgement leaves. Assumes nothing.
 use borrow.Author.Needs.{needs}
 use mathlib.Core.Path.{_≡_, sym, ap, _∙_}
 use denote.Ref.{now}
@@ -19,31 +19,39 @@ tests s = jobVerdict (s .args .head) (now (s .args .blocks)) (now (s .args .read
 
 -- what its judgement says
 module _ (c : tie.After-judged-job) where
-  judgement : c .judged-job .result ≡ judgedUnder (tests (c .before .before)) (c .before .before .args .head) (now (c .before .before .args .blocks))
-  judgement = rw (toZ-ofZ (c .before .before .fits .sum)) at (c .judged-job .ensures)
+  abbrev start : tie.Start
+  start = c .before .before .before
 
-  judged-verdict : c .judged-job .result .verdict ≡ tests (c .before .before)
+  judgement : c .judged-job .result ≡ judgedUnder (tests start) (start .args .head) (now (start .args .blocks))
+  judgement = rw (toZ-ofZ (start .fits .sum)) at (c .judged-job .ensures .0)
+
+  judged-verdict : c .judged-job .result .verdict ≡ tests start
   judged-verdict = ap (λ (r : Judged). r .verdict) judgement
 
 -- past the job's own tests
-passed : (c : tie.After-enum-told) → tests (c .before .before .before .before) ≡ accepted
+passed : (c : tie.After-enum-told) → tests (start (c .before .before)) ≡ accepted
 passed c = sym (judged-verdict (c .before .before)) ∙ c .enum-told .given .1
 
 returns : tie.Need-returns
 returns c =
-    let s = c .before .before .before .before .before .before in
-    let e : tests s ≡ refused _ _ = sym (judged-verdict (c .before .before .before .before)) ∙ c .before .before .verdict .given .1 in
-    c .no-judgement .ensures ∙ search (no-judgement-with _ _ _ _ _ _ _ _ _ _ (analyse-refused _ _ _ _ _ (s .args .words) (s .args .values) (s .args .deviations) _ _ e))
+    let j = c .before .before .before .before in
+    let s = start j in
+    let e : tests s ≡ refused _ _ = sym (judged-verdict j) ∙ c .before .before .verdict .given .1 in
+    (c .no-judgement .ensures ∙ search (no-judgement-with _ _ _ _ _ _ _ _ _ _ (analyse-refused _ _ _ _ _ (s .args .words) (s .args .values) (s .args .deviations) _ _ e)), search (j .judged-job .ensures .1))
 
 returns-2 : tie.Need-returns-2
 returns-2 c =
-    c .no-judgement2 .ensures
-    ∙ no-judgement-with _ _ _ _ _ _ _ _ _ _ (analyse-rooms _ _ _ _ _ _ _ _ (passed (c .before .before .before .before .before))
-    ∙ sym (c .before .before .before .before .rooms-refusal .ensures) ∙ c .before .before .number .given .1)
+    let p = c .before .before .before .before .before in (
+      c .no-judgement2 .ensures
+          ∙ no-judgement-with _ _ _ _ _ _ _ _ _ _ (analyse-rooms _ _ _ _ _ _ _ _ (passed p) ∙ sym (c .before .before .before .before .rooms-refusal .ensures) ∙ c .before .before .number .given .1),
+      search (p .before .before .judged-job .ensures .1),
+    )
 
 returns-3 : tie.Need-returns-3
-returns-3 c = let p = c .before .before .before in
-    judgement (p .before .before) ∙ judgement-with _ _ _ _ _ _ _ _ (passed p) (sym (c .before .before .rooms-refusal .ensures) ∙ c .enum-told2 .given .1)
+returns-3 c =
+    let p = c .before .before .before in
+    let j = p .before .before in
+    (judgement j ∙ judgement-with _ _ _ _ _ _ _ _ (passed p) (sym (c .before .before .rooms-refusal .ensures) ∙ c .enum-told2 .given .1), search (j .judged-job .ensures .1))
 
 pub judged-with-rooms-spec : {M : Type 1} → statement M
 judged-with-rooms-spec =

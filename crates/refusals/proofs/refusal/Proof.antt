@@ -8,7 +8,7 @@ use Rattle.refusals.proofs.refusal.Tie as tie
 
 returns : tie.Need-returns
 returns c =
-    let told = rw (toZ-ofZ (c .before .before .fits .sum)) at (c .judged-job .ensures) in
+    let told = rw (toZ-ofZ (c .before .before .before .fits .sum)) at (c .judged-job .ensures .0) in
     search (ap (λ (r : Judged). r .verdict) told)
 
 pub refusal-spec : {M : Type 1} → statement M

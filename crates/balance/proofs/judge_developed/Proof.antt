@@ -1,0 +1,83 @@
+-- `balance::judge_developed` meets its contract: past the refusal the two tables are those of the design, and the judgement is the one over them. The room is
+-- whole, so the words are left wherever the block list is accepted. Assumes nothing.
+use mathlib.Core.Path.{_≡_, refl, sym, _∙_}
+use denote.Ref.{now}
+use lib.ListN.{length}
+use Rattle.meaning.specs.Refusals.{accepted}
+use Rattle.meaning.specs.Calls.{designVerdict, wordsUnder, companyTable, oppositionTable}
+use Rattle.laws.proofs.Chains.{sound}
+use Rattle.balance.proofs.Judging.{room-enough, words-left, company-left, opposition-left, side-size, tables-tell, company-first, opposition-first, first-most, judged-refused, judged-accepted}
+use native.Mathlib.Omega.{arith}
+use borrow.Author.Needs.{needs}
+use Rattle.balance.proofs.judge_developed.Statement.{statement}
+use Rattle.balance.proofs.judge_developed.Tie as tie
+
+-- what the counting leaves
+module _ (c : tie.After-tables) where
+  abbrev start : tie.Start
+  start = c .before .before .before .before .before
+
+  whole : length (now (start .args .developed)) ≡ 2600
+  whole = c .before .before .before .tables-arg .given .0 .1
+
+  verdict : c .tables .result ≡ designVerdict (start .args .head) (now (start .args .blocks))
+  verdict = c .tables .ensures .0 ∙ room-enough _ _ whole
+
+  words : c .tables .last .1 .1 .0 ≡ wordsUnder (designVerdict (start .args .head) (now (start .args .blocks))) (start .args .head) (now (start .args .blocks)) (now (start .args .developed))
+  words = words-left _ _ whole _ (c .tables .ensures .1 .0)
+
+  company : c .tables .last .1 .1 .1 .0 ≡ companyTable (start .args .head) (now (start .args .blocks))
+  company = company-left _ _ whole refl (c .tables .ensures .1 .1 .0)
+
+  opposition : c .tables .last .1 .1 .1 .1 .0 ≡ oppositionTable (start .args .head) (now (start .args .blocks))
+  opposition = opposition-left _ _ whole refl (c .tables .ensures .1 .1 .1)
+
+-- past the refusal, the block list is accepted
+passed : (c : tie.After-enum-told) → designVerdict (start (c .before .before) .args .head) (now (start (c .before .before) .args .blocks)) ≡ accepted
+passed c = sym (verdict (c .before .before)) ∙ c .enum-told .given .1
+
+returns : tie.Need-returns
+returns c =
+    let t = c .before .before .before .before in
+    (judged-refused _ _ _ _ (sym (verdict t) ∙ c .before .before .number .given .1) (search needs), search (words t))
+
+add-v : tie.Need-add-v
+add-v c = let f = sound _ _ (passed (c .before)) .sizes in omega arith
+
+mul-b : tie.Need-mul-b
+mul-b c = let f = sound _ _ (passed (c .before .before)) .sizes in omega arith
+
+judge-tables-requires : tie.Need-judge-tables-requires
+judge-tables-requires c κs =
+    let p = c .before .before .before .before .before .before in
+    let e = passed p in
+    let f = sound _ _ e .sizes in
+    let t = p .before .before in
+    (omega arith, omega arith, first-most _ _ e (company t) (opposition t))
+
+returns-2 : tie.Need-returns-2
+returns-2 c =
+    let p = c .before .before .before .before .before .before .before in
+    let e = passed p in
+    let t = p .before .before in (
+      c .judge-tables .ensures
+          ∙ judged-accepted _ _ _ _ _ e (tables-tell _ _ e (company t) (opposition t)) (c .before .before .before .ones .ensures ∙ side-size _ _ e _ (whole t) (words t))
+          (company-first _ _ e (company t) (opposition t)) (opposition-first _ _ e (company t) (opposition t)),
+      search (words t),
+    )
+
+pub judge-developed-spec : {M : Type 1} → statement M
+judge-developed-spec =
+    tie.close
+    (tie.spec
+    (λ c κs. search needs)
+    (λ c. search needs)
+    (λ c κs. search needs)
+    returns
+    (λ c. search needs)
+    add-v
+    mul-b
+    (λ c. search needs)
+    (λ c κs. search needs)
+    judge-tables-requires
+    returns-2)

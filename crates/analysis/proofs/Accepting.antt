@@ -11,7 +11,7 @@ use lib.ListN.{getD, length}
 use lib.IntN.{ℤ, pos, natAbs, _-ℤ_, _*ℤ_}
 use Rattle.algebra.specs.Ranges.{sum}
 use Rattle.algebra.specs.Buffers.{over}
-use Rattle.algebra.proofs.Filling.{getD-over, length-over, over-ext}
+use Rattle.algebra.proofs.Filling.{getD-over, over-ext}
 use Rattle.algebra.proofs.Solver.{_⊕_, _⊗_, _⊝_, #, _≐_, ring₃}
 use Rattle.algebra.proofs.Order.{pos-inj, comb₁}
 use Rattle.algebra.proofs.Bounds.{sum-squares}
@@ -19,23 +19,25 @@ use Rattle.algebra.proofs.Sums.{sum-cong}
 use Rattle.meaning.specs.declared.Head.{Head}
 use Rattle.meaning.specs.declared.Verdict.{Verdict}
 use Rattle.meaning.specs.declared.Parameters.{Parameters}
-use Rattle.meaning.specs.Design.{objects, blocks, listLength, balanced, parametersOf}
-use Rattle.meaning.specs.Analysis.{reading, total, member, members, restrained, numerator, denominator, vbeta, numeratorOf, denominatorOf, deviationOf, squaredReadings, squaredTotals, qOf, freedom, spreadHundredthsOf}
+use Rattle.meaning.specs.Design.{objects, blocks, balanced, parametersOf}
+use Rattle.meaning.specs.Analysis.{reading, total, members, numerator, denominator, vbeta, numeratorOf, denominatorOf, deviationOf, squaredReadings, squaredTotals, qOf, freedom, spreadHundredthsOf}
 use Rattle.meaning.specs.Publishing.{spreadOf}
-use Rattle.meaning.specs.Refusals.{_⨾_, accepted, refused, sizes, lengthIs, clean, inBalance, restraint, inReach, room}
-use Rattle.meaning.specs.Calls.{slices, contents, wordAt, jobVerdict, squaredReadingsVerdict, squaredTotalsVerdict, spreadingOf, rooms, analyseVerdict, solvedUnder}
+use Rattle.meaning.specs.Refusals.{_⨾_, accepted, refused, sizes, clean, inBalance, restraint, inReach, room}
+use Rattle.meaning.specs.Calls.{slices, contents, wordAt, jobVerdict, spreadingOf, rooms, analyseVerdict, solvedUnder}
 use Rattle.laws.specs.Fits.{Fits}
 use Rattle.laws.proofs.Chains.{Sound, Readings, Job, opened, held, accepts, goes-on, test-yes, accepted-last, job}
 use Rattle.laws.proofs.Counting.{Numbers, parameters}
 use Rattle.laws.proofs.Matrix.{difference-signs}
 use Rattle.laws.proofs.Analysis.{vbeta-some, q-nonneg}
-use Rattle.laws.proofs.Sizes.{vbeta-most, total-most, squared-readings-most, q-most}
+use Rattle.laws.proofs.Sizes.{vbeta-most, squared-readings-most, q-most}
 use Rattle.spread.specs.Hundredths.{spreadingFrom}
 use Rattle.spread.proofs.Range.{Ranged, hundredths-is}
-use Rattle.totals.specs.Developed.{Weighed, Within}
-use Rattle.totals.proofs.Developing.{Laid, laid}
-use Rattle.analysis.proofs.Working.{set-within, fitted-signs}
-use Rattle.analysis.specs.Worked.{totalAt, Totalled, Measured, numeratorIn, deviationIn, scaleIn, Workable, workedOut, noSolution}
+use Rattle.readings.proofs.Squares.{readings-squares}
+use Rattle.weighing.specs.Developed.{totalIn}
+use Rattle.weighing.proofs.Developing.{Laid, laid-squares}
+use Rattle.weighing.proofs.Refusing.{weigh-reach}
+use Rattle.analysis.proofs.Working.{set-within, set-agrees, fitted-signs}
+use Rattle.analysis.specs.Worked.{Measured, numeratorIn, deviationIn, scaleIn, Workable, workedOut, noSolution}
 
 -- ---- verdicts
 
@@ -48,21 +50,6 @@ job-tests h d y w M e =
     let c = opened (clean h d ⨾ inBalance h d) (restraint h w M) (b .0) in
     let f = opened (clean h d) (inBalance h d) (c .0) in
     (a .0, f .0, b .1)
-
--- it has accepted totals
-pub job-totals : (h : Head) (d : List ℕ) (y : List ℤ) (w : ℕ) (M : ℤ) → jobVerdict h d y w M ≡ accepted → squaredTotalsVerdict h d y ≡ accepted
-unfolding squaredTotalsVerdict
-job-totals h d y w M e = let (a, b, c) = job-tests h d y w M e in accepts (accepts a b) c
-
--- accepted totals have accepted readings
-pub totals-readings : (h : Head) (d : List ℕ) (y : List ℤ) → squaredTotalsVerdict h d y ≡ accepted → squaredReadingsVerdict h y ≡ accepted
-unfolding squaredTotalsVerdict squaredReadingsVerdict slices
-totals-readings h d y e =
-    let a = opened (slices h d y ⨾ clean h d) (inReach y) e in
-    let b = opened (slices h d y) (clean h d) (a .0) in
-    let c = opened (sizes h ⨾ lengthIs (length d) (listLength h)) (lengthIs (length y) (blocks h)) (b .0) in
-    let f = opened (sizes h) (lengthIs (length d) (listLength h)) (c .0) in
-    accepts (accepts (f .0) (c .1)) (a .1)
 
 -- ---- rooms
 
@@ -81,34 +68,31 @@ pub analysed : (h : Head) (d : List ℕ) (y : List ℤ) (w : ℕ) (M : ℤ) (wor
 unfolding analyseVerdict
 analysed h d y w M words values deviations e = let (a, b) = opened _ _ e in (a, enough h words values deviations b)
 
--- ---- from the totals
+-- ---- from the words
 
-module _ (h : Head) (d : List ℕ) (y : List ℤ) (room totals : List ℤ) (l : objects h ≤ length room) (e : totals ≡ over (objects h) (total h d y) room) where
-  -- a total stands at its place
-  total-at : (i : ℕ) → i < objects h → totalAt totals i ≡ total h d y i
-  total-at i m = ap (λ (x : List ℤ). getD x i (pos 0)) e ∙ getD-over (objects h) (total h d y) room (pos 0) i m l
+module _ (h : Head) (d : List ℕ) (y : List ℤ) (words : List ℕ) (s : Sound h d) (a : Laid h d words) where
+  few : objects h ≤ 64
+  few = omega (arith, s .sizes .objects-most)
 
   -- the numerators are the definition's
-  numerator-is : (w : ℕ) (M : ℤ) → objects h ≤ 64 → w < 2 ^ objects h → (i : ℕ) → i < objects h → numeratorIn totals (objects h) w (vbeta h d) M i ≡ numeratorOf h d y w M i
-  unfolding numeratorOf restrained
-  numerator-is w M f g i m =
-      ap₂ (λ (T S : ℤ). numerator (members (objects h) w) T S (vbeta h d) M) (total-at i m)
-      (set-within (totalAt totals) (objects h) w f g ∙ sum-cong (objects h) _ _ (λ j n. ap (λ (T : ℤ). pos (member w j) *ℤ T) (total-at j n)))
+  numerator-is : (w : ℕ) (M : ℤ) → w < 2 ^ objects h → (i : ℕ) → numeratorIn (totalIn words y (blocks h)) (objects h) w (vbeta h d) M i ≡ numeratorOf h d y w M i
+  unfolding numeratorOf
+  numerator-is w M g i =
+      ap₂ (λ (T S : ℤ). numerator (members (objects h) w) T S (vbeta h d) M) (a .totals y i)
+      (set-agrees _ (total h d y) (objects h) w few g (λ j n. a .totals y j) ∙ set-within (total h d y) (objects h) w few g)
 
   -- the deviation numerators are the definition's
-  deviation-is : (words : List ℕ) → Sound h d → Laid h d y words → (k : ℕ) → k < blocks h → deviationIn words y totals (vbeta h d) k ≡ deviationOf h d y k
+  deviation-is : (k : ℕ) → k < blocks h → deviationIn words y (totalIn words y (blocks h)) (vbeta h d) k ≡ deviationOf h d y k
   unfolding deviationOf
-  deviation-is words s a k m =
+  deviation-is k m =
       ap (λ (F : ℤ). pos (vbeta h d) *ℤ reading y k -ℤ F)
-      (fitted-signs words totals k (objects h) (omega (arith, s .sizes .objects-most)) (a .within .below (2 * k) (omega arith)) (a .within .below (2 * k + 1) (omega arith)) ∙ sum-cong (objects h) _ _ (λ i n. ap₂ _*ℤ_ (a .signs k i m) (total-at i n)) ∙ sym (difference-signs h d s (total h d y) k m))
+      (fitted-signs words k (objects h) few (a .within .below (2 * k) (omega arith)) (a .within .below (2 * k + 1) (omega arith)) _
+      ∙ sum-cong (objects h) _ _ (λ i n. ap₂ _*ℤ_ (a .signs k i m) (a .totals y i)) ∙ sym (difference-signs h d s (total h d y) k m))
 
-  -- a room of totals
-  totalled : Sound h d → Readings h y → Totalled totals (objects h)
-  totalled s r = record {
-    few = s .sizes .objects-most;
-    long = subst (λ (x : List ℤ). objects h ≤ length x) (sym e) (omega (arith, length-over (objects h) (total h d y) room));
-    most = λ i m. subst (λ (z : ℤ). natAbs z ≤ 260000000) (sym (total-at i m)) (total-most h d s y r i);
-  }
+-- words that were copied from a development are one
+pub copied : (h : Head) (d : List ℕ) (zeros developed before words : List ℕ) → 2 * blocks h ≤ length zeros → developed ≡ over (2 * blocks h) (wordAt h d) zeros →
+    words ≡ over (2 * blocks h) (λ c. getD developed c 0) before → words ≡ over (2 * blocks h) (wordAt h d) before
+copied h d zeros developed before words m e f = f ∙ over-ext (2 * blocks h) _ _ before (λ c l. ap (λ (x : List ℕ). getD x c 0) e ∙ getD-over (2 * blocks h) (wordAt h d) zeros 0 c l m)
 
 -- ---- records
 
@@ -156,42 +140,34 @@ module _ (h : Head) (d : List ℕ) (s : Sound h d) (b : balanced h d ≡ true) (
         spread = spreadOf (hundredths-is (qOf h d y) (vbeta h d) (freedom h) range j) (freedom h);
       }
 
-  module _ (r : Readings h y) (e : squaredTotalsVerdict h d y ≡ accepted) (vb squares : ℕ) (f : vb ≡ vbeta h d) (g : squares ≡ natAbs (squaredTotals h d y)) where
+  module _ (r : Readings h y) (vb readings totals : ℕ) (f : vb ≡ vbeta h d) (m : readings ≡ natAbs (squaredReadings h y)) (g : totals ≡ natAbs (squaredTotals h d y)) where
     -- what is measured
-    measured : Measured h y vb squares
+    measured : Measured h vb readings totals
     measured = record {
       sizes = s .sizes;
-      squared = totals-readings h d y e;
-      q-some = subst₂ (λ (t v : ℕ). t ≤ v * natAbs (squaredReadings h y)) (sym g) (sym f) (q-is .0);
-      q-most = subst (λ (v : ℕ). v * natAbs (squaredReadings h y) ≤ 135200000000000000) (sym f) (mul-le-mul (vbeta-most h d s b) (squared-readings-most h d s y r));
+      q-some = subst₂ (λ (t R : ℕ). t ≤ vb * R) (sym g) (sym m) (subst (λ (v : ℕ). natAbs (squaredTotals h d y) ≤ v * natAbs (squaredReadings h y)) (sym f) (q-is .0));
+      q-most = subst₂ (λ (v R : ℕ). v * R ≤ 135200000000000000) (sym f) (sym m) (mul-le-mul (vbeta-most h d s b) (squared-readings-most h d s y r));
       freedom-some = omega (arith, parameters h d s b .enough);
     }
 
     -- is the job's own spread
-    spreading-is : spreadingFrom (vb * natAbs (squaredReadings h y) - squares) vb (freedom h) ≡ spreadingOf h d y
-    spreading-is = ap₂ (λ (Q v : ℕ). spreadingFrom Q v (freedom h)) (ap₂ (λ (v t : ℕ). v * natAbs (squaredReadings h y) - t) f g ∙ q-is .1) f ∙ spreading-of r
+    spreading-is : spreadingFrom (vb * readings - totals) vb (freedom h) ≡ spreadingOf h d y
+    spreading-is = (λ j. spreadingFrom (f j * m j - g j) (f j) (freedom h)) ∙ ap (λ (Q : ℕ). spreadingFrom Q (vbeta h d) (freedom h)) (q-is .1) ∙ spreading-of r
 
 -- ---- an accepted job, worked out
 
--- an accepted job with its parameters, developed, its totals laid and squared
-pub record Developed (h : Head) (d : List ℕ) (y : List ℤ) (w : ℕ) (M : ℤ) (p : Parameters) (squares : ℕ) (before words : List ℕ) (room totals : List ℤ) : Type 0 where
+-- an accepted job with its parameters and its words
+pub record Developed (h : Head) (d : List ℕ) (y : List ℤ) (w : ℕ) (M : ℤ) (p : Parameters) (words : List ℕ) : Type 0 where
   pub stands : jobVerdict h d y w M ≡ accepted
   pub parameters-are : p ≡ parametersOf h d
-  pub words-room : 2 * blocks h ≤ length before
-  pub words-are : words ≡ over (2 * blocks h) (wordAt h d) before
-  pub totals-room : objects h ≤ length room
-  pub totals-are : totals ≡ over (objects h) (total h d y) room
-  pub squares-are : squares ≡ natAbs (squaredTotals h d y)
+  pub lay : Laid h d words
 
-module _ {h : Head} {d : List ℕ} {y : List ℤ} {w : ℕ} {M : ℤ} {p : Parameters} {squares : ℕ} {before words : List ℕ} {room totals : List ℤ} (a : Developed h d y w M p squares before words room totals) where
+module _ {h : Head} {d : List ℕ} {y : List ℤ} {w : ℕ} {M : ℤ} {p : Parameters} {words : List ℕ} (a : Developed h d y w M p words) where
   its-job : Job h d y w M
   its-job = job h d y w M (a .stands)
 
   design : Sound h d
   design = its-job .measures .design
-
-  lay : Laid h d y words
-  lay = laid h d y before words design (its-job .measures .readings) (a .words-room) (a .words-are)
 
   -- its parameters are those of a balanced design
   constants : Numbers h d
@@ -201,41 +177,39 @@ module _ {h : Head} {d : List ℕ} {y : List ℤ} {w : ℕ} {M : ℤ} {p : Param
   scale-is = ap scaleIn (a .parameters-are) ∙ ap (λ (b : ℕ). objects h * b) (omega (arith, constants .beta-is))
 
   -- it can be worked out
-  pub workable : Workable h y w M p squares words totals
+  pub workable : Workable h y w M p words
   workable = record {
-    measured = measured h d design (its-job .measures .even) y (its-job .measures .readings) (job-totals h d y w M (a .stands)) (scaleIn p) squares scale-is (a .squares-are);
-    weighed = subst (λ (q : Parameters). Weighed words y (q .b)) (sym (a .parameters-are)) (lay .weighed);
-    within = subst (λ (q : Parameters). Within words (q .b) (q .v)) (sym (a .parameters-are)) (lay .within);
-    totalled = subst (λ (q : Parameters). Totalled totals (q .v)) (sym (a .parameters-are)) (totalled h d y room totals (a .totals-room) (a .totals-are) design (its-job .measures .readings));
+    measured = measured h d design (its-job .measures .even) y (its-job .measures .readings) _ _ _ scale-is (sym (readings-squares h y)) (laid-squares h d y words (a .lay));
+    weighable = weigh-reach h words y 50 d (a .lay) (its-job .measures .readings .readings-long) (design .sizes .objects-most) ∙ job-tests h d y w M (a .stands) .2;
     less = subst (λ (q : Parameters). q .l1 ≤ q .l2) (sym (a .parameters-are)) (constants .less);
     scale-most = subst (λ (x : ℕ). x ≤ 2600) (sym scale-is) (vbeta-most h d design (its-job .measures .even));
-    set-inside = subst (λ (q : Parameters). w < 2 ^ q .v) (sym (a .parameters-are)) (its-job .restraint .set-inside);
+    set-inside = its-job .restraint .set-inside;
     sum-most = its-job .restraint .sum-most;
   }
 
   -- its record is the definition's
-  pub record-is : (verdict : Verdict) → verdict ≡ accepted → workedOut h y w p squares ≡ solvedUnder verdict h d y w
+  pub record-is : (verdict : Verdict) → verdict ≡ accepted → workedOut h y w p words ≡ solvedUnder verdict h d y w
   unfolding denominatorOf
   record-is verdict e =
       (λ j. record {
         verdict = accepted;
         parameters = a .parameters-are j;
-        denominator = denominator (members (a .parameters-are j .v) w) (scale-is j);
-        spreading = spreading-is h d design (its-job .measures .even) y (its-job .measures .readings) (job-totals h d y w M (a .stands)) (scaleIn p) squares scale-is (a .squares-are) j;
+        denominator = denominator (members (objects h) w) (scale-is j);
+        spreading = spreading-is h d design (its-job .measures .even) y (its-job .measures .readings) _ _ _ scale-is (sym (readings-squares h y)) (laid-squares h d y words (a .lay)) j;
       })
       ∙ sym (ap (λ (v : Verdict). solvedUnder v h d y w) e)
 
   -- so are its values
-  pub values-are : (values : List ℤ) → over (p .v) (numeratorIn totals (p .v) w (scaleIn p) M) values ≡ over (objects h) (numeratorOf h d y w M) values
+  pub values-are : (values : List ℤ) → over (objects h) (numeratorIn (totalIn words y (blocks h)) (objects h) w (scaleIn p) M) values ≡ over (objects h) (numeratorOf h d y w M) values
   values-are values =
-      (λ j. over (a .parameters-are j .v) (numeratorIn totals (a .parameters-are j .v) w (scale-is j) M) values)
-      ∙ over-ext (objects h) _ _ values (numerator-is h d y room totals (a .totals-room) (a .totals-are) w M (omega (arith, design .sizes .objects-most)) (its-job .restraint .set-inside))
+      (λ j. over (objects h) (numeratorIn (totalIn words y (blocks h)) (objects h) w (scale-is j) M) values)
+      ∙ over-ext (objects h) _ _ values (λ i l. numerator-is h d y words design (a .lay) w M (its-job .restraint .set-inside) i)
 
   -- and its deviations
-  pub deviations-are : (deviations : List ℤ) → over (p .b) (deviationIn words y totals (scaleIn p)) deviations ≡ over (blocks h) (deviationOf h d y) deviations
+  pub deviations-are : (deviations : List ℤ) → over (blocks h) (deviationIn words y (totalIn words y (blocks h)) (scaleIn p)) deviations ≡ over (blocks h) (deviationOf h d y) deviations
   deviations-are deviations =
-      (λ j. over (a .parameters-are j .b) (deviationIn words y totals (scale-is j)) deviations)
-      ∙ over-ext (blocks h) _ _ deviations (deviation-is h d y room totals (a .totals-room) (a .totals-are) words design lay)
+      (λ j. over (blocks h) (deviationIn words y (totalIn words y (blocks h)) (scale-is j)) deviations)
+      ∙ over-ext (blocks h) _ _ deviations (deviation-is h d y words design (a .lay))
 
 -- ---- rooms that are always long enough
 

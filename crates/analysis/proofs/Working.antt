@@ -4,7 +4,9 @@
 --     SetWalk, set-starts, set-goes, set-ends, so-far-small   the walk
 --     set-small, fitted-small             how large
 --     fitted-signs                        by the signs of a block's words
+--     set-agrees, fitted-agrees           from two rooms of the same totals
 --     held-by                             every object of such a word has its total
+--     totalled, numerators-agree, deviations-agree   what a room that was filled with the totals over words holds, and what is made from it
 -- Assumes nothing.
 use mathlib.Core.Path.{_≡_, refl, sym, ap, ap₂, _∙_, subst}
 use mathlib.Core.List.{List}
@@ -13,18 +15,24 @@ use native.Mathlib.Nat.{le-trans}
 use native.Mathlib.Decide.{ℕ-discrete, decLt}
 use native.Mathlib.Omega.{arith}
 use lib.IntN.{ℤ, pos, natAbs, _+ℤ_, _-ℤ_, _*ℤ_}
-use lib.ListN.{getD}
+use lib.ListN.{getD, length}
 use Rattle.algebra.specs.Ranges.{sum}
+use Rattle.algebra.specs.Buffers.{over}
+use Rattle.algebra.proofs.Filling.{length-over, over-ext}
 use Rattle.algebra.proofs.Sums.{sum-add, sum-sub, sum-ext, sum-cong, sum-zero, sum-only, sum-split}
 use Rattle.algebra.proofs.Solver.{_⊕_, _⊗_, _⊝_, #, _≐_, ring₁, ring₃}
 use Rattle.algebra.proofs.Order.{comb₁}
 use Rattle.algebra.proofs.Bounds.{abs-*-le, abs-sub, abs-sum}
-use Rattle.meaning.specs.Analysis.{member, restrained}
+use Rattle.meaning.specs.declared.Head.{Head}
+use Rattle.meaning.specs.Design.{objects, blocks}
+use Rattle.meaning.specs.Analysis.{reading, member, members, restrained, numerator}
 use Rattle.words.specs.Bits.{bit, lowestOf, withoutLowest}
 use Rattle.words.proofs.Bits.{bit-most, bit-none, bit-past, once, once-same, once-other}
 use Rattle.words.proofs.Walk.{lowest-lt, lowest-one, rest-bit, rest-less}
-use Rattle.totals.specs.Developed.{signIn, Room}
-use Rattle.analysis.specs.Worked.{totalAt, Totalled, overSet, fittedIn}
+use Rattle.weighing.specs.Developed.{signIn, totalIn}
+use Rattle.weighing.proofs.Developing.{filled-at, filled-most}
+use Rattle.weighing.proofs.Refusing.{Weighable}
+use Rattle.analysis.specs.Worked.{totalAt, Totalled, Held, overSet, numeratorIn, fittedIn, deviationIn}
 
 -- ---- over any word
 
@@ -64,9 +72,9 @@ module _ (f : ℕ → ℤ) where
 
 -- ---- over a room of totals
 
-module _ (totals : List ℤ) (w : ℕ) (r : Room totals w 260000000) where
+module _ (totals : List ℤ) (w : ℕ) (r : Held totals w) where
   -- each object adds at most a total; so over a part of the word
-  pub part-small : (rest : ℕ) → ((i : ℕ) → bit rest i ≡ 1 → bit w i ≡ 1) → natAbs (overSet rest totals) ≤ 16640000000
+  pub part-small : (rest : ℕ) → ((i : ℕ) → bit rest i ≡ 1 → bit w i ≡ 1) → natAbs (overSet rest (totalAt totals)) ≤ 16640000000
   unfolding restrained
   part-small rest part = omega (arith, abs-sum 64 260000000 (λ i. pos (member rest i) *ℤ totalAt totals i) (λ i l. by i (ℕ-discrete (bit rest i) 1)))
     where
@@ -77,22 +85,22 @@ module _ (totals : List ℤ) (w : ℕ) (r : Room totals w 260000000) where
           subst (λ (z : ℤ). natAbs z ≤ 260000000) (sym (ap (λ (b : ℕ). pos b *ℤ totalAt totals i) none ∙ ring₁ (λ t. # 0 ⊗ t ≐ # 0) (totalAt totals i) refl)) (omega arith)
 
   -- over all of it
-  pub set-small : natAbs (overSet w totals) ≤ 16640000000
+  pub set-small : natAbs (overSet w (totalAt totals)) ≤ 16640000000
   set-small = part-small w (λ i e. e)
 
 -- the walk: rest is what is left of the word w, and so far the total of every object that is not
 pub record SetWalk (w : ℕ) (totals : List ℤ) (rest : ℕ) (so-far : ℤ) : Type 0 where
   pub less : rest ≤ w
   pub part : (i : ℕ) → bit rest i ≡ 1 → bit w i ≡ 1
-  pub sums : so-far +ℤ overSet rest totals ≡ overSet w totals
+  pub sums : so-far +ℤ overSet rest (totalAt totals) ≡ overSet w (totalAt totals)
 
 module _ (w : ℕ) (totals : List ℤ) where
   -- nothing was added yet
   pub set-starts : SetWalk w totals w (pos 0)
-  set-starts = record { less = omega arith; part = λ i e. e; sums = ring₁ (λ t. # 0 ⊕ t ≐ t) (overSet w totals) refl }
+  set-starts = record { less = omega arith; part = λ i e. e; sums = ring₁ (λ t. # 0 ⊕ t ≐ t) (overSet w (totalAt totals)) refl }
 
   -- all was added
-  pub set-ends : (so-far : ℤ) → SetWalk w totals 0 so-far → so-far ≡ overSet w totals
+  pub set-ends : (so-far : ℤ) → SetWalk w totals 0 so-far → so-far ≡ overSet w (totalAt totals)
   set-ends so-far k = sym (ap (λ (z : ℤ). so-far +ℤ z) (set-nothing (totalAt totals)) ∙ ring₁ (λ t. t ⊕ # 0 ≐ t) so-far refl) ∙ k .sums
 
   module _ (rest : ℕ) (so-far : ℤ) (h : w < 2 ^ 64) (p : 0 < rest) (k : SetWalk w totals rest so-far) where
@@ -106,22 +114,22 @@ module _ (w : ℕ) (totals : List ℤ) where
       less = omega (arith, rest-less rest p, k .less);
       part = λ i f. k .part i (omega (arith, rest-bit rest p (omega (arith, k .less)) i, bit-most rest i));
       sums =
-          ap (λ (x : ℤ). x +ℤ overSet (withoutLowest rest) totals) e
-          ∙ ring₃ (λ s t r. s ⊕ t ⊕ r ≐ s ⊕ (t ⊕ r)) so-far (totalAt totals (lowestOf rest)) (overSet (withoutLowest rest) totals) refl
+          ap (λ (x : ℤ). x +ℤ overSet (withoutLowest rest) (totalAt totals)) e
+          ∙ ring₃ (λ s t r. s ⊕ t ⊕ r ≐ s ⊕ (t ⊕ r)) so-far (totalAt totals (lowestOf rest)) (overSet (withoutLowest rest) (totalAt totals)) refl
           ∙ ap (λ (x : ℤ). so-far +ℤ x) (sym (set-rest (totalAt totals) rest p (omega (arith, k .less)))) ∙ k .sums;
     }
 
   -- what was added is the difference of two sums
-  pub so-far-small : (rest : ℕ) (so-far : ℤ) → Room totals w 260000000 → SetWalk w totals rest so-far → natAbs so-far ≤ 33280000000
+  pub so-far-small : (rest : ℕ) (so-far : ℤ) → Held totals w → SetWalk w totals rest so-far → natAbs so-far ≤ 33280000000
   so-far-small rest so-far r k =
-      let taken : so-far ≡ overSet w totals -ℤ overSet rest totals = comb₁ (pos 1) (k .sums) (ring₃ (λ s a b. s ⊝ (b ⊝ a) ≐ # 1 ⊗ (s ⊕ a ⊝ b)) so-far (overSet rest totals) (overSet w totals) refl) in
-      subst (λ (z : ℤ). natAbs z ≤ 33280000000) (sym taken) (omega (arith, abs-sub (overSet w totals) (overSet rest totals), set-small totals w r, part-small totals w r rest (k .part)))
+      let taken : so-far ≡ overSet w (totalAt totals) -ℤ overSet rest (totalAt totals) = comb₁ (pos 1) (k .sums) (ring₃ (λ s a b. s ⊝ (b ⊝ a) ≐ # 1 ⊗ (s ⊕ a ⊝ b)) so-far (overSet rest (totalAt totals)) (overSet w (totalAt totals)) refl) in
+      subst (λ (z : ℤ). natAbs z ≤ 33280000000) (sym taken) (omega (arith, abs-sub (overSet w (totalAt totals)) (overSet rest (totalAt totals)), set-small totals w r, part-small totals w r rest (k .part)))
 
 -- ---- the words of a block
 
 -- every object of a word that has them below v has its total
-pub held-by : (totals : List ℤ) (v w : ℕ) → Totalled totals v → w < 2 ^ v → Room totals w 260000000
-held-by totals v w t h = record { held = λ i e. let l = below i e in (omega (arith, t .long), t .most i l) }
+pub held-by : (totals : List ℤ) (v w : ℕ) → Totalled totals v → w < 2 ^ v → Held totals w
+held-by totals v w t h = record { held = λ i e. let l = below i e in (omega (arith, t .few), t .most i l) }
   where
     below : (i : ℕ) → bit w i ≡ 1 → i < v
     below i e = by (decLt i v)
@@ -130,17 +138,57 @@ held-by totals v w t h = record { held = λ i e. let l = below i e in (omega (ar
         by (yes l) = l
         by (no n) = absurd (omega (arith, e, bit-past v w i h (omega (arith, n))))
 
-module _ (words : List ℕ) (totals : List ℤ) (k : ℕ) where
-  -- each side is at most that of 64 totals
-  pub fitted-small : Room totals (getD words (2 * k) 0) 260000000 → Room totals (getD words (2 * k + 1) 0) 260000000 → natAbs (fittedIn words totals k) ≤ 33280000000
-  fitted-small a b =
-      le-trans (abs-sub (overSet (getD words (2 * k) 0) totals) (overSet (getD words (2 * k + 1) 0) totals))
-      (omega (arith, set-small totals (getD words (2 * k) 0) a, set-small totals (getD words (2 * k + 1) 0) b))
+-- two sums over such a word agree where their totals do
+pub set-agrees : (f g : ℕ → ℤ) (v w : ℕ) → v ≤ 64 → w < 2 ^ v → ((i : ℕ) → i < v → f i ≡ g i) → restrained 64 w f ≡ restrained 64 w g
+unfolding restrained
+set-agrees f g v w l h e = set-within f v w l h ∙ sum-cong v _ _ (λ i m. ap (λ (t : ℤ). pos (member w i) *ℤ t) (e i m)) ∙ sym (set-within g v w l h)
 
+-- each side of a block is at most that of 64 totals
+pub fitted-small : (words : List ℕ) (totals : List ℤ) (k : ℕ) → Held totals (getD words (2 * k) 0) → Held totals (getD words (2 * k + 1) 0) → natAbs (fittedIn words (totalAt totals) k) ≤ 33280000000
+fitted-small words totals k a b =
+    le-trans (abs-sub (overSet (getD words (2 * k) 0) (totalAt totals)) (overSet (getD words (2 * k + 1) 0) (totalAt totals)))
+    (omega (arith, set-small totals (getD words (2 * k) 0) a, set-small totals (getD words (2 * k + 1) 0) b))
+
+module _ (words : List ℕ) (k v : ℕ) (l : v ≤ 64) (a : getD words (2 * k) 0 < 2 ^ v) (b : getD words (2 * k + 1) 0 < 2 ^ v) where
   -- a block is fitted by the signs of its words
-  pub fitted-signs : (v : ℕ) → v ≤ 64 → getD words (2 * k) 0 < 2 ^ v → getD words (2 * k + 1) 0 < 2 ^ v → fittedIn words totals k ≡ sum v (λ i. signIn words k i *ℤ totalAt totals i)
+  pub fitted-signs : (T : ℕ → ℤ) → fittedIn words T k ≡ sum v (λ i. signIn words k i *ℤ T i)
   unfolding restrained
-  fitted-signs v l a b =
-      ap₂ _-ℤ_ (set-within (totalAt totals) v (getD words (2 * k) 0) l a) (set-within (totalAt totals) v (getD words (2 * k + 1) 0) l b)
+  fitted-signs T =
+      ap₂ _-ℤ_ (set-within T v (getD words (2 * k) 0) l a) (set-within T v (getD words (2 * k + 1) 0) l b)
       ∙ sym (sum-sub v _ _)
-      ∙ sum-ext v _ _ (λ i. ring₃ (λ l r t. l ⊗ t ⊝ r ⊗ t ≐ (l ⊝ r) ⊗ t) (pos (bit (getD words (2 * k) 0) i)) (pos (bit (getD words (2 * k + 1) 0) i)) (totalAt totals i) refl)
+      ∙ sum-ext v _ _ (λ i. ring₃ (λ l r t. l ⊗ t ⊝ r ⊗ t ≐ (l ⊝ r) ⊗ t) (pos (bit (getD words (2 * k) 0) i)) (pos (bit (getD words (2 * k + 1) 0) i)) (T i) refl)
+
+  -- two fits agree where their totals do
+  pub fitted-agrees : (f g : ℕ → ℤ) → ((i : ℕ) → i < v → f i ≡ g i) → fittedIn words f k ≡ fittedIn words g k
+  fitted-agrees f g e = ap₂ _-ℤ_ (set-agrees f g v (getD words (2 * k) 0) l a e) (set-agrees f g v (getD words (2 * k + 1) 0) l b e)
+
+-- ---- a room that was filled with the totals over words
+
+module _ (h : Head) (y : List ℤ) (words : List ℕ) (room totals : List ℤ) (s : Weighable h words y (length room)) (e : totals ≡ over (objects h) (totalIn words y (blocks h)) room) where
+  abbrev T : ℕ → ℤ
+  T = totalIn words y (blocks h)
+
+  few : objects h ≤ 64
+  few = omega (arith, s .fit .objects-most)
+
+  agrees : (i : ℕ) → i < objects h → totalAt totals i ≡ T i
+  agrees = filled-at words y (blocks h) (objects h) room totals (s .roomy) e
+
+  -- every total is in its range
+  pub totalled : Totalled totals (objects h)
+  totalled = record {
+    few = s .fit .objects-most;
+    most = filled-most words y (blocks h) (objects h) room totals (s .roomy) e (s .weighed);
+  }
+
+  -- the numerators that are made from it are those of the words
+  pub numerators-agree : (w vb : ℕ) (M : ℤ) (values : List ℤ) → w < 2 ^ objects h →
+      over (objects h) (numeratorIn (totalAt totals) (objects h) w vb M) values ≡ over (objects h) (numeratorIn T (objects h) w vb M) values
+  numerators-agree w vb M values g =
+      over-ext (objects h) _ _ values (λ i l. ap₂ (λ (t S : ℤ). numerator (members (objects h) w) t S vb M) (agrees i l) (set-agrees (totalAt totals) T (objects h) w few g agrees))
+
+  -- and so are the deviation numerators
+  pub deviations-agree : (vb : ℕ) (deviations : List ℤ) → over (blocks h) (deviationIn words y (totalAt totals) vb) deviations ≡ over (blocks h) (deviationIn words y T vb) deviations
+  deviations-agree vb deviations =
+      over-ext (blocks h) _ _ deviations (λ k l. ap (λ (F : ℤ). pos vb *ℤ reading y k -ℤ F)
+      (fitted-agrees words k (objects h) few (s .within .below (2 * k) (omega arith)) (s .within .below (2 * k + 1) (omega arith)) (totalAt totals) T agrees))

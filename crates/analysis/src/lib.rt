@@ -5,10 +5,9 @@ use meaning::Solved;
 use meaning::Spread;
 use meaning::Spreading;
 use meaning::Verdict;
-use readings::sum_of_squares;
 use refusals::judged_with_rooms;
 use spread::spread_from;
-use totals::all_totals;
+use weighing::weigh;
 use words::lowest;
 use words::ones;
 use words::without_lowest;
@@ -18,10 +17,12 @@ ghost use lib.IntN.{natAbs};
 ghost use lib.ListN.{getD, length};
 ghost use Rattle.algebra.specs.Buffers.{over};
 ghost use Rattle.spread.specs.Hundredths.{spreadingFrom};
-ghost use Rattle.totals.specs.Developed.{Weighed, Room};
-ghost use Rattle.meaning.specs.Analysis.{members, squaredReadings, freedom};
+ghost use Rattle.laws.specs.Fits.{Fits};
+ghost use Rattle.weighing.specs.Developed.{totalIn, Weighed};
+ghost use Rattle.meaning.specs.Design.{objects, blocks};
+ghost use Rattle.meaning.specs.Analysis.{members, freedom};
 ghost use Rattle.meaning.specs.Calls.{analyseVerdict, solvedUnder, wordsUnder, valuesUnder, deviationsUnder};
-ghost use Rattle.analysis.specs.Worked.{Totalled, Measured, Workable, overSet, fittedIn, scaleIn, numeratorIn, deviationIn, workedOut, noSolution};
+ghost use Rattle.analysis.specs.Worked.{totalAt, squaresIn, Totalled, Held, Measured, Workable, overSet, fittedIn, scaleIn, numeratorIn, deviationIn, workedOut, noSolution};
 
 // Everything at once: words, values and deviations into lent rooms, the design judged once. All rooms are looked at before the first is written.
 pub fn analyse(
@@ -55,18 +56,14 @@ pub fn analyse(
     if let Verdict::Refused(_, _) = verdict {
         return no_solution(verdict);
     }
-    let parameters = judged.parameters;
-    let mut totals = [0i64; 50];
-    let squared_totals = all_totals(head, blocks, readings, words, &mut totals);
+    copy_words(head, &developed, words);
     work(
         head,
         readings,
         set,
         sum,
-        parameters,
-        squared_totals.sum,
+        judged.parameters,
         words,
-        &totals,
         values,
         deviations,
     )
@@ -99,32 +96,45 @@ fn no_solution(verdict: Verdict) -> Solved
     }
 }
 
-// Works a job out from its words and totals, into rooms that are long enough; `squares` is the sum of the squared totals.
+// Copies the two words of every block.
+fn copy_words(head: Head, developed: &[u64; 2600], words: &mut [u64])
+    requires { ⌜ (Fits head) × (2 * blocks head ≤ length (now words)) ⌝ }
+    ensures { λ r. ⌜ now (words .exit) ≡ over (2 * blocks head) (λ c. getD (now (developed .entry)) c 0) (now (words .entry)) ⌝ }
+{
+    let count = 2 * (head.m * head.n);
+    let mut c = 0;
+    while c < count {
+        words[c] = developed[c];
+        c += 1;
+    }
+}
+
+// Works a job out from its words, into rooms that are long enough.
 fn work(
     head: Head,
     readings: &[i32],
     set: u64,
     sum: i64,
     parameters: Parameters,
-    squares: u64,
     words: &[u64],
-    totals: &[i64],
     values: &mut [i64],
     deviations: &mut [i64],
 ) -> Solved
-    requires { ⌜ Workable head (now readings) set sum parameters squares (now words) (now totals) ⌝ }
-    requires { ⌜ (parameters .v ≤ length (now values)) × (parameters .b ≤ length (now deviations)) ⌝ }
-    ensures { λ r. ⌜ r ≡ workedOut head (now (readings .entry)) set parameters squares ⌝ }
-    ensures { λ r. ⌜ now (values .exit) ≡ over (parameters .v) (numeratorIn (now (totals .entry)) (parameters .v) set (scaleIn parameters) sum) (now (values .entry)) ⌝ }
-    ensures { λ r. ⌜ now (deviations .exit) ≡ over (parameters .b) (deviationIn (now (words .entry)) (now (readings .entry)) (now (totals .entry)) (scaleIn parameters)) (now (deviations .entry)) ⌝ }
+    requires { ⌜ Workable head (now readings) set sum parameters (now words) ⌝ }
+    requires { ⌜ (objects head ≤ length (now values)) × (blocks head ≤ length (now deviations)) ⌝ }
+    ensures { λ r. ⌜ r ≡ workedOut head (now (readings .entry)) set parameters (now (words .entry)) ⌝ }
+    ensures { λ r. ⌜ now (values .exit) ≡ over (objects head) (numeratorIn (totalIn (now (words .entry)) (now (readings .entry)) (blocks head)) (objects head) set (scaleIn parameters) sum) (now (values .entry)) ⌝ }
+    ensures { λ r. ⌜ now (deviations .exit) ≡ over (blocks head) (deviationIn (now (words .entry)) (now (readings .entry)) (totalIn (now (words .entry)) (now (readings .entry)) (blocks head)) (scaleIn parameters)) (now (deviations .entry)) ⌝ }
 {
-    let v = parameters.v as usize;
-    let b = parameters.b as usize;
+    let mut totals = [0i64; 50];
+    let squared_totals = weigh(head, words, readings, &mut totals);
+    let v = head.n + head.flag;
+    let b = head.m * head.n;
     let vbeta = parameters.v * (parameters.l2 - parameters.l1);
     let t = ones(set);
-    fill_values(totals, v, set, t, vbeta, sum, values);
-    fill_deviations(words, readings, totals, b, vbeta, deviations);
-    let spreading = measure(head, readings, vbeta, squares);
+    fill_values(&totals, v, set, t, vbeta, sum, values);
+    let squared_readings = fill_deviations(words, readings, &totals, b, vbeta, deviations);
+    let spreading = measure(head, vbeta, squared_readings, squared_totals.sum);
     let denominator = t * vbeta;
     Solved {
         verdict: Verdict::Accepted,
@@ -134,21 +144,20 @@ fn work(
     }
 }
 
-// The spread, from v·beta and the sum of the squared totals.
-fn measure(head: Head, readings: &[i32], vbeta: u64, squares: u64) -> Spreading
-    requires { ⌜ Measured head (now readings) vbeta squares ⌝ }
-    ensures { λ r. ⌜ r ≡ spreadingFrom (vbeta * natAbs (squaredReadings head (now (readings .entry))) - squares) vbeta (freedom head) ⌝ }
+// The spread, from v·beta, the sum of the squared readings and that of the squared totals.
+fn measure(head: Head, vbeta: u64, readings: u64, totals: u64) -> Spreading
+    requires { ⌜ Measured head vbeta readings totals ⌝ }
+    ensures { λ r. ⌜ r ≡ spreadingFrom (vbeta * readings - totals) vbeta (freedom head) ⌝ }
 {
-    let squared_readings = sum_of_squares(head, readings);
-    let q = vbeta * squared_readings.sum - squares;
+    let q = vbeta * readings - totals;
     let freedom = head.m * head.n + 1 - (head.n + head.flag);
     spread_from(q, vbeta, freedom as u64)
 }
 
 // The totals over the objects of a set, added: over the restraint set it is S. Only its own objects are walked, lowest first.
-fn set_sum(totals: &[i64], set: u64) -> i64
-    requires { ⌜ Room (now totals) set 260000000 ⌝ }
-    ensures { λ r. ⌜ r ≡ overSet set (now (totals .entry)) ⌝ }
+fn set_sum(totals: &[i64; 50], set: u64) -> i64
+    requires { ⌜ Held (now totals) set ⌝ }
+    ensures { λ r. ⌜ r ≡ overSet set (totalAt (now (totals .entry))) ⌝ }
 {
     let mut sum: i64 = 0;
     let mut rest = set;
@@ -162,10 +171,18 @@ fn set_sum(totals: &[i64], set: u64) -> i64
 }
 
 // Lays the numerator of every object into `values`; t is how many objects the restraint set has.
-fn fill_values(totals: &[i64], v: usize, set: u64, t: u64, vbeta: u64, sum: i64, values: &mut [i64])
+fn fill_values(
+    totals: &[i64; 50],
+    v: usize,
+    set: u64,
+    t: u64,
+    vbeta: u64,
+    sum: i64,
+    values: &mut [i64],
+)
     requires { ⌜ Totalled (now totals) v ⌝ }
     requires { ⌜ (v ≤ length (now values)) × (set < 2 ^ v) × (t ≡ members v set) × (t ≤ 50) × (vbeta ≤ 2600) × (natAbs sum ≤ 1000000000) ⌝ }
-    ensures { λ r. ⌜ now (values .exit) ≡ over v (numeratorIn (now (totals .entry)) v set vbeta sum) (now (values .entry)) ⌝ }
+    ensures { λ r. ⌜ now (values .exit) ≡ over v (numeratorIn (totalAt (now (totals .entry))) v set vbeta sum) (now (values .entry)) ⌝ }
 {
     let members = t as i64;
     let over_set = set_sum(totals, set);
@@ -179,10 +196,10 @@ fn fill_values(totals: &[i64], v: usize, set: u64, t: u64, vbeta: u64, sum: i64,
 }
 
 // What the totals make of block k: left group minus right group.
-fn fitted(words: &[u64], totals: &[i64], k: usize) -> i64
+fn fitted(words: &[u64], totals: &[i64; 50], k: usize) -> i64
     requires { ⌜ 2 * k + 1 < length (now words) ⌝ }
-    requires { ⌜ (Room (now totals) (getD (now words) (2 * k) 0) 260000000) × (Room (now totals) (getD (now words) (2 * k + 1) 0) 260000000) ⌝ }
-    ensures { λ r. ⌜ r ≡ fittedIn (now (words .entry)) (now (totals .entry)) k ⌝ }
+    requires { ⌜ (Held (now totals) (getD (now words) (2 * k) 0)) × (Held (now totals) (getD (now words) (2 * k + 1) 0)) ⌝ }
+    ensures { λ r. ⌜ r ≡ fittedIn (now (words .entry)) (totalAt (now (totals .entry))) k ⌝ }
 {
     let left_word = words[2 * k];
     let right_word = words[2 * k + 1];
@@ -191,25 +208,30 @@ fn fitted(words: &[u64], totals: &[i64], k: usize) -> i64
     left - right
 }
 
-// Lays the deviation numerator of every block into `deviations`.
+// Lays the deviation numerator of every block into `deviations`, and hands back the sum of the squared readings: the readings are walked once for both.
 fn fill_deviations(
     words: &[u64],
     readings: &[i32],
-    totals: &[i64],
+    totals: &[i64; 50],
     b: usize,
     vbeta: u64,
     deviations: &mut [i64],
-)
+) -> u64
     requires { ⌜ Weighed (now words) (now readings) b ⌝ }
-    requires { ⌜ ((c : ℕ) → c < 2 * b → Room (now totals) (getD (now words) c 0) 260000000) ⌝ }
+    requires { ⌜ ((c : ℕ) → c < 2 * b → Held (now totals) (getD (now words) c 0)) ⌝ }
     requires { ⌜ (b ≤ length (now deviations)) × (vbeta ≤ 2600) ⌝ }
-    ensures { λ r. ⌜ now (deviations .exit) ≡ over b (deviationIn (now (words .entry)) (now (readings .entry)) (now (totals .entry)) vbeta) (now (deviations .entry)) ⌝ }
+    ensures { λ r. ⌜ r ≡ squaresIn (now (readings .entry)) b ⌝ }
+    ensures { λ r. ⌜ now (deviations .exit) ≡ over b (deviationIn (now (words .entry)) (now (readings .entry)) (totalAt (now (totals .entry))) vbeta) (now (deviations .entry)) ⌝ }
 {
     let scale = vbeta as i64;
+    let mut squares: u64 = 0;
     let mut k = 0;
     while k < b {
         let y = readings[k] as i64;
+        let square = y * y;
+        squares += square as u64;
         deviations[k] = scale * y - fitted(words, totals, k);
         k += 1;
     }
+    squares
 }

@@ -1,7 +1,6 @@
 -- Any two outcomes that keep the promise of a public function are identical. `Post` is the promise itself, as the check reads it from the source. Assumes nothing.
 use mathlib.Core.Path.{_≡_, sym, _∙_}
 use contract.Lifetimes.{Lfts}
-use denote.Ref.{now}
 use borrow.Fn.World.{ArgsD, ResD}
 use borrow.Fn.Kinds.{endedOf}
 use denote.Triple.Clauses.{AtExit}
@@ -11,9 +10,6 @@ use Rattle.totals.proofs.total.Reads as totalCallReads
 use Rattle.totals.proofs.sum_of_squared_totals as sumOfSquaredTotalsCall
 use Rattle.totals.proofs.sum_of_squared_totals.Kinds as sumOfSquaredTotalsCallKinds
 use Rattle.totals.proofs.sum_of_squared_totals.Reads as sumOfSquaredTotalsCallReads
-use Rattle.totals.proofs.all_totals as allTotalsCall
-use Rattle.totals.proofs.all_totals.Kinds as allTotalsCallKinds
-use Rattle.totals.proofs.all_totals.Reads as allTotalsCallReads
 
 -- the same total
 module _ (κs : Lfts 2) (a : ArgsD totalCall.signature κs) (r q : ResD totalCall.signature κs) (s t : AtExit (endedOf 2 totalCallKinds.ps totalCallKinds.r) κs) where
@@ -24,8 +20,3 @@ module _ (κs : Lfts 2) (a : ArgsD totalCall.signature κs) (r q : ResD totalCal
 module _ (κs : Lfts 2) (a : ArgsD sumOfSquaredTotalsCall.signature κs) (r q : ResD sumOfSquaredTotalsCall.signature κs) (s t : AtExit (endedOf 2 sumOfSquaredTotalsCallKinds.ps sumOfSquaredTotalsCallKinds.r) κs) where
   pub sum-of-squared-totals-determined : sumOfSquaredTotalsCallReads.Post κs a r s → sumOfSquaredTotalsCallReads.Post κs a q t → r ≡ q
   sum-of-squared-totals-determined p e = p ∙ sym e
-
--- the same sum, and the same words and totals after
-module _ (κs : Lfts 4) (a : ArgsD allTotalsCall.signature κs) (r q : ResD allTotalsCall.signature κs) (s t : AtExit (endedOf 4 allTotalsCallKinds.ps allTotalsCallKinds.r) κs) where
-  pub all-totals-determined : allTotalsCallReads.Post κs a r s → allTotalsCallReads.Post κs a q t → (r ≡ q) × (now (s .1 .1 .1 .0) ≡ now (t .1 .1 .1 .0)) × (now (s .1 .1 .1 .1 .0) ≡ now (t .1 .1 .1 .1 .0))
-  all-totals-determined p e = (p .0 ∙ sym (e .0), p .1 .0 ∙ sym (e .1 .0), p .1 .1 ∙ sym (e .1 .1))

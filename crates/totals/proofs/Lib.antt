@@ -1,5 +1,3 @@
--- The laws of totals over words, and of the verdicts of totals.
-pub mod Developing
-pub mod Adding
+-- The laws of the verdicts of totals, and what the promises determine.
 pub mod Refusing
 pub mod Determined

@@ -1,76 +1,89 @@
--- The verdicts of totals, taken apart and put together, one law a way out. Assumes nothing.
-use mathlib.Core.Path.{_≡_, refl, sym, ap, _∙_}
-use mathlib.Core.List.{List}
+-- The verdicts of totals, taken apart and put together, and what stands where the blocks are accepted. Assumes nothing.
+use mathlib.Core.Path.{_≡_, refl, sym, ap, ap₂, _∙_}
+use mathlib.Core.List.{List, replicate}
 use Prim.Native.Nat.{ℕ, _*_, _≤_, _<_}
 use native.Mathlib.Omega.{arith}
-use borrow.Author.Tests.{le-leb, lt-leb, lt-ltb, le-ltb}
+use borrow.Author.Tests.{le-leb, lt-ltb, le-ltb}
 use lib.Dec.{leb, ltb}
 use lib.IntN.{ℤ, pos}
+use lib.ListN.{getD, length, getD-replicate}
+use Rattle.algebra.proofs.Filling.{getD-over, length-over}
 use Rattle.meaning.specs.declared.Head.{Head}
 use Rattle.meaning.specs.declared.Verdict.{Verdict}
 use Rattle.meaning.specs.declared.Verdict.the-variants.{Accepted, Refused}
 use Rattle.meaning.specs.declared.ObjectTotal.{ObjectTotal}
 use Rattle.meaning.specs.Design.{objects, blocks}
 use Rattle.meaning.specs.Analysis.{total}
-use Rattle.meaning.specs.Refusals.{_⨾_, accepted, refused, clean, inReach, room}
-use Rattle.meaning.specs.Calls.{given, slices, squaredTotalsVerdict, totalVerdict, totalAnswer}
-use Rattle.laws.proofs.Chains.{Sound, Readings, opened, accepts, goes-on, refused-stays, test-yes, test-no, sliced, slices-sound, slices-readings}
-use Rattle.totals.specs.Verdicts.{totalsVerdict, noTotal}
+use Rattle.meaning.specs.Refusals.{_⨾_, accepted, refused, clean, inReach}
+use Rattle.meaning.specs.Calls.{given, written, slices, developVerdict, wordsUnder, squareSum, squaredTotalsVerdict, squaredTotalsAnswer, totalVerdict, totalAnswer}
+use Rattle.laws.proofs.Chains.{Sound, opened, goes-on, accepts, refused-stays, test-yes, test-no, accepted-last, given-yes, sliced, slices-sound}
+use Rattle.readings.proofs.Answers.{design-clean}
+use Rattle.weighing.specs.Developed.{totalIn, squaredTotalsIn}
+use Rattle.weighing.specs.Verdicts.{weighVerdict}
+use Rattle.weighing.proofs.Developing.{Laid, laid, laid-squares}
+use Rattle.weighing.proofs.Refusing.{weigh-reach}
+use Rattle.totals.specs.Answers.{noTotal}
 
--- ---- all totals
+-- ---- the words
 
--- what accepted totals stand on
-pub totalled : (h : Head) (d : List ℕ) (y : List ℤ) → slices h d y ⨾ clean h d ≡ accepted → inReach y ≡ accepted → Sound h d × Readings h y
-totalled h d y e n =
-    let a = opened _ _ e in
-    let s = sliced h d y (a .0) in
-    (slices-sound h d y s (a .1), slices-readings h d y s n)
+-- past the lengths, with room for 2600 words, the block list decides
+pub develops-clean : (h : Head) (d : List ℕ) (y : List ℤ) {len : ℕ} → len ≡ 2600 → slices h d y ≡ accepted → developVerdict h d len ≡ slices h d y ⨾ clean h d
+unfolding developVerdict
+develops-clean h d y {len} m e =
+    let f = sliced h d y e .sizes in
+    ap₂ _⨾_ (design-clean h d y e) (test-yes (leb (2 * blocks h) len) 10 0 (le-leb (2 * blocks h) len (omega arith))) ∙ accepted-last (clean h d) ∙ sym (goes-on _ e)
 
--- the same, from the verdict
-pub squared-totalled : (h : Head) (d : List ℕ) (y : List ℤ) → squaredTotalsVerdict h d y ≡ accepted → Sound h d × Readings h y
-unfolding squaredTotalsVerdict
-squared-totalled h d y e = let a = opened _ _ e in totalled h d y (a .0) (a .1)
+module _ (h : Head) (d : List ℕ) (y : List ℤ) (l words : List ℕ) (m : length l ≡ 2600) (w : words ≡ wordsUnder (slices h d y ⨾ clean h d) h d l) where
+  -- whatever the verdict, there are 2600 of them
+  pub words-long : 2600 ≡ length words
+  words-long = sym (ap length w ∙ by (slices h d y ⨾ clean h d) ∙ m)
+    where
+      by : (v : Verdict) → length (wordsUnder v h d l) ≡ length l
+      by Accepted = length-over (2 * blocks h) _ l
+      by (Refused k at) = refl
 
--- 2600 words and 50 totals are room enough for every job
-pub rooms-enough : (h : Head) (d : List ℕ) (y : List ℤ) → totalsVerdict h d y 2600 50 ≡ squaredTotalsVerdict h d y
-unfolding totalsVerdict
-rooms-enough h d y = by (squaredTotalsVerdict h d y) refl
-  where
-    by : (v : Verdict) → squaredTotalsVerdict h d y ≡ v → v ⨾ room 2600 (2 * blocks h) ⨾ room 50 (objects h) ≡ v
-    by Accepted e =
-        let f = squared-totalled h d y e .0 .sizes in
-        accepts (test-yes (leb (2 * blocks h) 2600) 10 0 (le-leb (2 * blocks h) 2600 (omega arith))) (test-yes (leb (objects h) 50) 10 0 (le-leb (objects h) 50 (omega arith)))
-    by (Refused k at) e = refl
+  module _ (e : slices h d y ⨾ clean h d ≡ accepted) where
+    -- accepted blocks are a sound design, and their words its development
+    stands : Sound h d
+    stands = let a = opened _ _ e in slices-sound h d y (sliced h d y (a .0)) (a .1)
 
--- accepted totals with both rooms
-pub totals-roomy : (h : Head) (d : List ℕ) (y : List ℤ) (words totals : ℕ) → squaredTotalsVerdict h d y ≡ accepted → 2 * blocks h ≤ words → objects h ≤ totals → totalsVerdict h d y words totals ≡ accepted
-unfolding totalsVerdict
-totals-roomy h d y words totals e a b =
-    accepts (accepts e (test-yes (leb (2 * blocks h) words) 10 0 (le-leb _ _ a))) (test-yes (leb (objects h) totals) 10 0 (le-leb _ _ b))
+    pub lay : Laid h d words
+    lay = laid h d l words stands (let f = stands .sizes in omega (arith, m)) (w ∙ given-yes _ _ _ e)
 
--- totals that are refused
-pub totals-refused : (h : Head) (d : List ℕ) (y : List ℤ) (words totals k at : ℕ) → squaredTotalsVerdict h d y ≡ refused k at → totalsVerdict h d y words totals ≡ refused k at
-unfolding totalsVerdict
-totals-refused h d y words totals k at e = refused-stays _ k at (refused-stays _ k at e)
+    -- so only the readings can still be refused
+    pub reached : weighVerdict h words y 50 ≡ inReach y
+    reached = weigh-reach h words y 50 d lay (sliced h d y (opened _ _ e .0) .readings-long) (stands .sizes .objects-most)
 
--- no room for the words
-pub totals-no-words : (h : Head) (d : List ℕ) (y : List ℤ) (words totals : ℕ) → squaredTotalsVerdict h d y ≡ accepted → words < 2 * blocks h → totalsVerdict h d y words totals ≡ refused 10 0
-unfolding totalsVerdict
-totals-no-words h d y words totals e a = refused-stays _ 10 0 (goes-on _ e ∙ test-no (leb (2 * blocks h) words) 10 0 (lt-leb _ _ a))
+-- ---- the squared totals
 
--- no room for the totals
-pub totals-no-totals : (h : Head) (d : List ℕ) (y : List ℤ) (words totals : ℕ) → squaredTotalsVerdict h d y ≡ accepted → 2 * blocks h ≤ words → totals < objects h → totalsVerdict h d y words totals ≡ refused 10 0
-unfolding totalsVerdict
-totals-no-totals h d y words totals e a b =
-    goes-on _ (accepts e (test-yes (leb (2 * blocks h) words) 10 0 (le-leb _ _ a))) ∙ test-no (leb (objects h) totals) 10 0 (lt-leb _ _ b)
+module _ (h : Head) (d : List ℕ) (y : List ℤ) where
+  -- the blocks are refused
+  pub squared-refused : (k at : ℕ) → slices h d y ⨾ clean h d ≡ refused k at → squaredTotalsVerdict h d y ≡ refused k at
+  unfolding squaredTotalsVerdict
+  squared-refused k at e = refused-stays _ k at e
+
+  -- accepted blocks: the sum is that of their words
+  pub squared-weighed : (words : List ℕ) → slices h d y ⨾ clean h d ≡ accepted → Laid h d words → weighVerdict h words y 50 ≡ inReach y →
+      squareSum (weighVerdict h words y 50) (squaredTotalsIn words y (blocks h) (objects h)) ≡ squaredTotalsAnswer h d y
+  unfolding squaredTotalsVerdict
+  squared-weighed words e l r = ap₂ squareSum (r ∙ sym (goes-on _ e)) (laid-squares h d y words l)
 
 -- ---- one total
+
+-- what stands at place i of a room that was written under a verdict
+written-at : (verdict : Verdict) (v : ℕ) (f : ℕ → ℤ) (i : ℕ) → i < v → v ≤ 50 → getD (written verdict v f (replicate 50 (pos 0))) i (pos 0) ≡ given verdict (f i) (pos 0)
+written-at Accepted v f i l m = getD-over v f (replicate 50 (pos 0)) (pos 0) i l m
+written-at (Refused k at) v f i l m = getD-replicate 50 i (pos 0) (pos 0) (omega arith)
 
 module _ (h : Head) (d : List ℕ) (y : List ℤ) (i : ℕ) where
   -- the blocks are refused
   pub total-refused : (k at : ℕ) → slices h d y ⨾ clean h d ≡ refused k at → totalVerdict h d y i ≡ refused k at
   unfolding totalVerdict
   total-refused k at e = refused-stays _ k at (refused-stays _ k at e)
+
+  -- a refusal holds 0
+  pub no-total-is : (k at : ℕ) → totalVerdict h d y i ≡ refused k at → noTotal (refused k at) ≡ totalAnswer h d y i
+  no-total-is k at e = sym (ap (λ (v : Verdict). record { verdict = v; total = given v (total h d y i) (pos 0) }) e)
 
   module _ (e : slices h d y ⨾ clean h d ≡ accepted) where
     -- there is no such object
@@ -79,15 +92,13 @@ module _ (h : Head) (d : List ℕ) (y : List ℤ) (i : ℕ) where
     total-no-object l = refused-stays _ 5 i (goes-on _ e ∙ test-no (ltb i (objects h)) 5 i (le-ltb _ _ l))
 
     -- the readings decide
-    pub total-reach : i < objects h → totalVerdict h d y i ≡ inReach y
+    total-reach : i < objects h → totalVerdict h d y i ≡ inReach y
     unfolding totalVerdict
     total-reach l = goes-on _ (accepts e (test-yes (ltb i (objects h)) 5 i (lt-ltb _ _ l)))
 
-  -- a refusal holds 0
-  pub no-total-is : (k at : ℕ) → totalVerdict h d y i ≡ refused k at → noTotal (refused k at) ≡ totalAnswer h d y i
-  no-total-is k at e = sym (ap (λ (v : Verdict). record { verdict = v; total = given v (total h d y i) (pos 0) }) e)
-
-  -- an acceptance holds the total
-  pub total-is-given : (x : ℤ) → totalVerdict h d y i ≡ accepted → x ≡ total h d y i → _≡_ {A = ObjectTotal} (record { verdict = accepted; total = x }) (totalAnswer h d y i)
-  total-is-given x e f =
-      ap (λ (z : ℤ). record { verdict = accepted; total = z }) f ∙ sym (ap (λ (v : Verdict). record { verdict = v; total = given v (total h d y i) (pos 0) }) e)
+    -- the verdict of the weighing and what stands at the object's place are the answer
+    pub total-weighed : (words : List ℕ) → Laid h d words → weighVerdict h words y 50 ≡ inReach y → i < objects h →
+        _≡_ {A = ObjectTotal} (record { verdict = weighVerdict h words y 50; total = getD (written (weighVerdict h words y 50) (objects h) (totalIn words y (blocks h)) (replicate 50 (pos 0))) i (pos 0) }) (totalAnswer h d y i)
+    total-weighed words w r l =
+        ap (λ (z : ℤ). record { verdict = weighVerdict h words y 50; total = z }) (written-at (weighVerdict h words y 50) (objects h) _ i l (w .sizes .objects-most))
+        ∙ ap₂ (λ (v : Verdict) (z : ℤ). record { verdict = v; total = given v z (pos 0) }) (r ∙ sym (total-reach l)) (w .totals y i)

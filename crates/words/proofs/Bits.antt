@@ -185,7 +185,7 @@ product-most w u i j = mul-le-mul (bit-most w i) (bit-most u j)
 -- ---- masks as the code makes them
 
 -- 1 << i is the word of place i alone
-shl-one : (i : ℕ) → i ≤ 63 → (1 * 2 ^ i) % 2 ^ 64 ≡ 2 ^ i
+pub shl-one : (i : ℕ) → i ≤ 63 → (1 * 2 ^ i) % 2 ^ 64 ≡ 2 ^ i
 shl-one i h = shl-exact 1 i 64 (lit< tt) (omega arith) ∙ one-mul (2 ^ i)
 
 -- under 1 << i the bit is left

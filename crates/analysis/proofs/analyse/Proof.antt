@@ -1,25 +1,25 @@
 -- `analyse`: each way out is its verdict, by the tests that led there; what was worked out stands under it. Assumes nothing.
 use borrow.Author.Needs.{needs}
-use mathlib.Core.Path.{_≡_, sym, ap, _∙_, subst}
+use mathlib.Core.Path.{_≡_, sym, ap, _∙_}
 use mathlib.Core.List.{List, replicate}
-use Prim.Native.Nat.{ℕ, _≤_}
+use Prim.Native.Nat.{ℕ, _*_, _≤_}
+use native.Mathlib.Omega.{arith}
 use denote.Ref.{now}
-use lib.IntN.{ℤ, pos, natAbs}
+use lib.IntN.{ℤ}
 use lib.ListN.{length}
+use Rattle.algebra.specs.Buffers.{over}
 use mir.Facts.{toZ-ofZ}
 use Rattle.meaning.specs.declared.Head.{Head}
 use Rattle.meaning.specs.declared.Verdict.{Verdict}
-use Rattle.meaning.specs.declared.Parameters.{Parameters}
 use Rattle.meaning.specs.declared.Judged.{Judged}
-use Rattle.meaning.specs.declared.SquareSum.{SquareSum}
-use Rattle.meaning.specs.Design.{parametersOf}
-use Rattle.meaning.specs.Analysis.{squaredTotals}
+use Rattle.meaning.specs.Design.{objects, blocks, parametersOf}
 use Rattle.meaning.specs.Refusals.{accepted}
-use Rattle.meaning.specs.Calls.{noParameters, analyseVerdict}
-use Rattle.laws.proofs.Chains.{given-yes, given-no, job}
-use Rattle.totals.proofs.Refusing.{totals-roomy}
+use Rattle.meaning.specs.Calls.{wordAt, noParameters, jobVerdict, analyseVerdict}
+use Rattle.laws.proofs.Chains.{Sound, given-yes, given-no, job}
+use Rattle.weighing.proofs.Developing.{laid}
+use Rattle.refusals.proofs.Jobs.{job-developed}
 use Rattle.refusals.specs.Judgement.{judgedUnder}
-use Rattle.analysis.proofs.Accepting.{job-totals, analysed, Developed, workable, record-is, values-are, deviations-are, no-solution-is}
+use Rattle.analysis.proofs.Accepting.{copied, analysed, Developed, workable, record-is, values-are, deviations-are, no-solution-is}
 use Rattle.analysis.proofs.analyse.Statement.{statement}
 use Rattle.analysis.proofs.analyse.Tie as tie
 
@@ -63,10 +63,10 @@ returns c =
       (sym (given-no (verdict s) _ _ _ _ e), (sym (given-no (verdict s) _ _ _ _ e), sym (given-no (verdict s) _ _ _ _ e))),
     )
 
--- once the totals are laid
-module _ (c : tie.After-all-totals) where
+-- once the words are copied
+module _ (c : tie.After-copy-words) where
   abbrev told : tie.After-enum-told2
-  told = c .before .before .before .before
+  told = c .before .before .before
 
   abbrev judged : tie.After-judged-with-rooms
   judged = told .before .before
@@ -75,41 +75,46 @@ module _ (c : tie.After-all-totals) where
   s = start judged
 
   abbrev words : List ℕ
-  words = c .all-totals .last .1 .1 .1 .0
+  words = c .copy-words .last .1 .1 .0
 
-  abbrev totals : List ℤ
-  totals = c .all-totals .last .1 .1 .1 .1 .0
+  stands : (jobVerdict (head s) (bytes s) (ys s) (s .args .set) (s .args .sum) ≡ accepted)
+      × ((2 * blocks (head s) ≤ length (now (s .args .words))) × (objects (head s) ≤ length (now (s .args .values))) × (blocks (head s) ≤ length (now (s .args .deviations))))
+  stands = analysed (head s) (bytes s) (ys s) (s .args .set) (s .args .sum) _ _ _ (passed told)
 
-  developed : Developed (head s) (bytes s) (ys s) (s .args .set) (s .args .sum) (judged .judged-with-rooms .result .parameters) (c .all-totals .result .sum) (now (s .args .words)) words (replicate 50 (pos 0)) totals
-  developed =
-      let (stands, (words-room, values-room, deviations-room)) = analysed (head s) (bytes s) (ys s) (s .args .set) (s .args .sum) _ _ _ (passed told) in
-      let sizes = job _ _ _ _ _ stands .measures .design .sizes in
-      let roomy = totals-roomy (head s) (bytes s) (ys s) (length (now (s .args .words))) 50 (job-totals _ _ _ _ _ stands) words-room (sizes .objects-most) in
-      record {
-        stands = stands;
-        parameters-are = ap (λ (r : Judged). r .parameters) (judgement judged) ∙ given-yes (verdict s) (parametersOf (head s) (bytes s)) noParameters (passed told);
-        words-room = words-room;
-        words-are = c .all-totals .ensures .1 .0 ∙ given-yes _ _ _ roomy;
-        totals-room = sizes .objects-most;
-        totals-are = c .all-totals .ensures .1 .1 ∙ given-yes _ _ _ roomy;
-        squares-are = ap (λ (r : SquareSum). r .sum) (c .all-totals .ensures .0) ∙ given-yes _ (natAbs (squaredTotals (head s) (bytes s) (ys s))) 0 roomy;
-      }
+  design : Sound (head s) (bytes s)
+  design = job _ _ _ _ _ (stands .0) .measures .design
+
+  words-are : words ≡ over (2 * blocks (head s)) (wordAt (head s) (bytes s)) (now (s .args .words))
+  words-are = copied (head s) (bytes s) (replicate 2600 0) _ _ words (omega (arith, design .sizes .blocks-most)) (job-developed _ _ _ _ _ _ (stands .0) (judged .judged-with-rooms .ensures .1)) (c .copy-words .ensures)
+
+  developed : Developed (head s) (bytes s) (ys s) (s .args .set) (s .args .sum) (judged .judged-with-rooms .result .parameters) words
+  developed = record {
+    stands = stands .0;
+    parameters-are = ap (λ (r : Judged). r .parameters) (judgement judged) ∙ given-yes (verdict s) (parametersOf (head s) (bytes s)) noParameters (passed told);
+    lay = laid (head s) (bytes s) _ words design (stands .1 .0) words-are;
+  }
+
+copy-words-requires : tie.Need-copy-words-requires
+copy-words-requires c κs =
+    let p = c .before .before in
+    let a = start (p .before .before) .args in
+    let t = analysed (a .head) (now (a .blocks)) (now (a .readings)) (a .set) (a .sum) _ _ _ (passed p) in
+    (job _ _ _ _ _ (t .0) .measures .design .sizes, t .1 .0)
 
 work-requires : tie.Need-work-requires
 work-requires c κs =
-    let a = c .before .before .before .before .before .before .before in
-    let rooms = analysed (head (s a)) (bytes (s a)) (ys (s a)) (s a .args .set) (s a .args .sum) _ _ _ (passed (told a)) .1 in
-    (rw (toZ-ofZ (s a .fits .sum)) (workable (developed a)), subst (λ (p : Parameters). (p .v ≤ length (now (s a .args .values))) × (p .b ≤ length (now (s a .args .deviations)))) (sym (developed a .parameters-are)) (rooms .1, rooms .2))
+    let a = c .before .before .before .before .before in
+    (rw (toZ-ofZ (s a .fits .sum)) (workable (developed a)), (stands a .1 .1, stands a .1 .2))
 
 returns-2 : tie.Need-returns-2
 returns-2 c =
-    let a = c .before .before .before .before .before .before .before .before .before .before in
+    let a = c .before .before .before .before .before .before .before .before in
     let d = developed a in
     let e = passed (told a) in
     let w = c .before .before .work .ensures in (
       w .0 ∙ record-is d (verdict (s a)) e,
       (
-        d .words-are ∙ sym (given-yes (verdict (s a)) _ _ e),
+        words-are a ∙ sym (given-yes (verdict (s a)) _ _ e),
         (
           rw (toZ-ofZ (s a .fits .sum)) at (w .1 .0) ∙ values-are d _ ∙ sym (given-yes (verdict (s a)) _ _ e),
           w .1 .1 ∙ deviations-are d _ ∙ sym (given-yes (verdict (s a)) _ _ e),
@@ -126,9 +131,7 @@ analyse-spec =
     (λ c κs. search needs)
     returns
     (λ c. search needs)
-    (λ c. search needs)
-    (λ c κs. search needs)
-    (λ c. search needs)
+    copy-words-requires
     work-requires
     (λ c. search needs)
     (λ c. search needs)

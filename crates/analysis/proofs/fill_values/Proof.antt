@@ -20,7 +20,7 @@ use Rattle.analysis.proofs.fill_values.Tie as tie
 
 abbrev Inv-loop : tie.InvT-loop
 Inv-loop totals v set t vbeta sum values₀ members over-set lifted i₀ values i =
-    (i ≤ v) × (values ≡ over i (numeratorIn totals v set vbeta (toZ w64 sum)) values₀) × (length values ≡ length values₀)
+    (i ≤ v) × (values ≡ over i (numeratorIn (totalAt totals) v set vbeta (toZ w64 sum)) values₀) × (length values ≡ length values₀)
 
 abbrev μ-loop : tie.MeasureT-loop
 μ-loop totals v set t vbeta sum values₀ members over-set lifted i₀ values i = v - i
@@ -36,7 +36,7 @@ module _ (c : tie.After-set-sum Inv-loop μ-loop) where
     small = omega (arith, c .before .pre .1 .2, c .before .pre .1 .3);
   }
 
-  summed : c .set-sum .result ≡ overSet (c .before .args .set) (now (c .before .args .totals))
+  summed : c .set-sum .result ≡ overSet (c .before .args .set) (totalAt (now (c .before .args .totals)))
   summed = search (c .set-sum .ensures)
 
   abbrev over-set : Num
@@ -84,7 +84,7 @@ returns : tie.Need-returns Inv-loop μ-loop
 returns c =
     let s = c .before .before .before in
     over-end _ _ (c .before .loop .inv .1) (omega arith)
-    ∙ ap (λ (M : ℤ). over (s .args .v) (numeratorIn (now (s .args .totals)) (s .args .v) (s .args .set) (s .args .vbeta) M) (now (s .args .values))) (toZ-ofZ (s .fits .sum))
+    ∙ ap (λ (M : ℤ). over (s .args .v) (numeratorIn (totalAt (now (s .args .totals))) (s .args .v) (s .args .set) (s .args .vbeta) M) (now (s .args .values))) (toZ-ofZ (s .fits .sum))
 
 pub fill-values-spec : {M : Type 1} → statement M
 fill-values-spec =
@@ -98,7 +98,7 @@ fill-values-spec =
     (λ c. times-fits (scale c) (sum c) (lit< tt))
     (λ c. (omega arith, over-none _ _, refl))
     (λ c. omega arith)
-    (λ c. omega (arith, c .before .before .before .pre .0 .long))
+    (λ c. omega (arith, c .before .before .before .pre .0 .few))
     (λ c. times-fits (in-set (sums c)) (total c) (lit< tt))
     (λ c. minus-fits (product c) (over-set (sums c)) (lit< tt))
     (λ c. plus-fits (less c) (lifted (sums c)) (lit< tt))

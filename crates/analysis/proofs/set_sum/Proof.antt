@@ -36,8 +36,8 @@ module _ (c : tie.After-lowest Inv-loop μ-loop) where
   near : c .lowest .result < 64
   near = omega (arith, c .lowest .ensures, lowest-lt 64 rest some (omega (arith, start .fits .set .fits, c .before .before .loop .inv .less)) (omega arith))
 
-  held : (c .lowest .result < length (now (start .args .totals))) × (natAbs (totalAt (now (start .args .totals)) (c .lowest .result)) ≤ 260000000)
-  held = subst (λ (i : ℕ). (i < length (now (start .args .totals))) × (natAbs (totalAt (now (start .args .totals)) i) ≤ 260000000)) (sym (c .lowest .ensures))
+  held : (c .lowest .result < 50) × (natAbs (totalAt (now (start .args .totals)) (c .lowest .result)) ≤ 260000000)
+  held = subst (λ (i : ℕ). (i < 50) × (natAbs (totalAt (now (start .args .totals)) i) ≤ 260000000)) (sym (c .lowest .ensures))
       (start .pre .held (lowestOf rest) (lowest-part _ _ rest _ (start .fits .set .fits) some (c .before .before .loop .inv)))
 
 -- what a turn computes

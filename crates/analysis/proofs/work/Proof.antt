@@ -1,50 +1,97 @@
--- `work`: each part by the call that makes it. Assumes nothing.
+-- `work`: each part by the call that makes it, from totals that are those of the words. Assumes nothing.
 use borrow.Author.Needs.{needs}
-use mathlib.Core.Path.{_≡_, refl, ap, _∙_}
-use Prim.Native.Nat.{_≤_}
+use mathlib.Core.Path.{_≡_, sym, ap, _∙_, subst₂}
+use mathlib.Core.List.{List, replicate}
+use Prim.Native.Nat.{ℕ, _-_, _*_, _≤_}
 use native.Mathlib.Nat.{mul-le-mul}
 use native.Mathlib.Omega.{arith}
 use denote.Ref.{now}
-use lib.IntN.{ℤ}
+use lib.IntN.{ℤ, pos}
 use mir.Facts.{toZ-ofZ}
 use Rattle.algebra.specs.Buffers.{over}
-use Rattle.meaning.specs.Analysis.{members}
+use Rattle.meaning.specs.declared.SquareSum.{SquareSum}
+use Rattle.meaning.specs.Design.{objects, blocks}
+use Rattle.meaning.specs.Analysis.{members, denominator, freedom}
+use Rattle.meaning.specs.Refusals.{accepted}
+use Rattle.spread.specs.Hundredths.{spreadingFrom}
+use Rattle.laws.proofs.Chains.{given-yes}
 use Rattle.laws.proofs.Solution.{members-most}
 use Rattle.words.proofs.Sides.{ones-members}
-use Rattle.analysis.specs.Worked.{scaleIn, numeratorIn}
-use Rattle.analysis.proofs.Working.{held-by}
+use Rattle.weighing.specs.Developed.{totalIn, squaredTotalsIn}
+use Rattle.weighing.proofs.Refusing.{Weighable, weighable}
+use Rattle.analysis.specs.Worked.{totalAt, Totalled, Measured, scaleIn, numeratorIn}
+use Rattle.analysis.proofs.Working.{held-by, totalled, numerators-agree, deviations-agree}
 use Rattle.analysis.proofs.work.Statement.{statement}
 use Rattle.analysis.proofs.work.Tie as tie
 
+-- once the words are weighed
+module _ (c : tie.After-weigh) where
+  abbrev start : tie.Start
+  start = c .before .before .before
+
+  abbrev words : List ℕ
+  words = now (start .args .words)
+
+  abbrev ys : List ℤ
+  ys = now (start .args .readings)
+
+  abbrev totals : List ℤ
+  totals = c .weigh .last .1 .1 .1 .0
+
+  stands : Weighable (start .args .head) words ys 50
+  stands = weighable _ _ _ _ (start .pre .0 .weighable)
+
+  filled : totals ≡ over (objects (start .args .head)) (totalIn words ys (blocks (start .args .head))) (replicate 50 (pos 0))
+  filled = c .weigh .ensures .1 ∙ given-yes _ _ _ (start .pre .0 .weighable)
+
+  squared : c .weigh .result .sum ≡ squaredTotalsIn words ys (blocks (start .args .head)) (objects (start .args .head))
+  squared = ap (λ (r : SquareSum). r .sum) (c .weigh .ensures .0) ∙ given-yes _ (squaredTotalsIn words ys (blocks (start .args .head)) (objects (start .args .head))) 0 (start .pre .0 .weighable)
+
+  ranged : Totalled totals (objects (start .args .head))
+  ranged = totalled _ _ _ _ _ stands filled
+
 -- how many objects the restraint set has
 module _ (c : tie.After-ones) where
-  abbrev start : tie.Start
-  start = c .before .before .before .before
+  abbrev weighed : tie.After-weigh
+  weighed = c .before .before .before .before .before .before
 
-  counted : c .ones .result ≡ members (start .args .parameters .v) (start .args .set)
-  counted = c .ones .ensures ∙ ones-members _ _ (omega (arith, start .pre .0 .totalled .few)) (start .pre .0 .set-inside)
+  abbrev s : tie.Start
+  s = start weighed
+
+  counted : c .ones .result ≡ members (objects (s .args .head)) (s .args .set)
+  counted = c .ones .ensures ∙ ones-members _ _ (omega (arith, stands weighed .fit .objects-most)) (s .pre .0 .set-inside)
 
   few : c .ones .result ≤ 50
-  few = omega (arith, counted, members-most (start .args .parameters .v) (start .args .set), start .pre .0 .totalled .few)
+  few = omega (arith, counted, members-most (objects (s .args .head)) (s .args .set), stands weighed .fit .objects-most)
 
 fill-values-requires : tie.Need-fill-values-requires
-fill-values-requires c κs = let o = c .before in
-    let s = start o in
-    (s .pre .0 .totalled, (s .pre .1 .0, s .pre .0 .set-inside, search (counted o), omega (arith, few o), s .pre .0 .scale-most, rw (toZ-ofZ (s .fits .sum)) (s .pre .0 .sum-most)))
+fill-values-requires c κs =
+    let o = c .before .before in
+    (ranged (weighed o), (s o .pre .1 .0, s o .pre .0 .set-inside, search (counted o), omega (arith, few o), s o .pre .0 .scale-most, rw (toZ-ofZ (s o .fits .sum)) (s o .pre .0 .sum-most)))
 
 fill-deviations-requires : tie.Need-fill-deviations-requires
-fill-deviations-requires c κs = let s = start (c .before .before .before .before) in
-    (s .pre .0 .weighed, ((λ i l. held-by _ _ _ (s .pre .0 .totalled) (s .pre .0 .within .below i l)), (s .pre .1 .1, s .pre .0 .scale-most)))
+fill-deviations-requires c κs =
+    let o = c .before .before .before .before .before .before in
+    let w = stands (weighed o) in
+    (w .weighed, ((λ i l. held-by _ _ _ (ranged (weighed o)) (w .within .below i l)), (s o .pre .1 .1, s o .pre .0 .scale-most)))
+
+measure-requires : tie.Need-measure-requires
+measure-requires c κs =
+    let w = c .before .before .before .before .before .before .before .before .before .before .before .before .before .before in
+    subst₂ (λ (R T : ℕ). Measured (start w .args .head) (scaleIn (start w .args .parameters)) R T) (sym (c .before .fill-deviations .ensures .0)) (sym (squared w)) (start w .pre .0 .measured)
 
 returns : tie.Need-returns
 returns c =
-    let o = c .before .before .before .before .before .before .before in
-    let s = start o in (
-      rw (counted o, c .measure .ensures) refl,
+    let o = c .before .before .before .before .before .before .before .before .before in
+    let w = weighed o in
+    let a = s o .args in
+    let spread = c .measure .ensures ∙ (λ j. spreadingFrom (scaleIn (a .parameters) * c .before .before .fill-deviations .ensures .0 j - squared w j) (scaleIn (a .parameters)) (freedom (a .head))) in (
+      (λ j. record { verdict = accepted; parameters = a .parameters; denominator = denominator (counted o j) (scaleIn (a .parameters)); spreading = spread j }),
       (
-        c .before .before .before .before .before .fill-values .ensures
-            ∙ ap (λ (M : ℤ). over (s .args .parameters .v) (numeratorIn (now (s .args .totals)) (s .args .parameters .v) (s .args .set) (scaleIn (s .args .parameters)) M) (now (s .args .values))) (toZ-ofZ (s .fits .sum)),
-        c .before .before .fill-deviations .ensures,
+        c .before .before .before .before .before .before .fill-values .ensures
+            ∙ ap (λ (M : ℤ). over (objects (a .head)) (numeratorIn (totalAt (totals w)) (objects (a .head)) (a .set) (scaleIn (a .parameters)) M) (now (a .values))) (toZ-ofZ (s o .fits .sum))
+            ∙ numerators-agree _ _ _ _ _ (stands w) (filled w) (a .set) (scaleIn (a .parameters)) (a .sum) (now (a .values)) (s o .pre .0 .set-inside),
+        c .before .before .fill-deviations .ensures .1 ∙ deviations-agree _ _ _ _ _ (stands w) (filled w) (scaleIn (a .parameters)) (now (a .deviations)),
       ),
     )
 
@@ -52,13 +99,17 @@ pub work-spec : {M : Type 1} → statement M
 work-spec =
     tie.close
     (tie.spec
-    (λ c. c .before .before .pre .0 .less)
-    (λ c. omega (arith, c .before .before .before .pre .0 .scale-most))
-    (λ c κs. search needs)
+    (λ c. search needs)
+    (λ c κs. tt)
+    (λ c. omega (arith, stands (c .before .before) .fit .objects-most))
+    (λ c. omega (arith, stands (c .before .before .before) .fit .blocks-most))
+    (λ c. start (c .before .before .before .before) .pre .0 .less)
+    (λ c. omega (arith, start (c .before .before .before .before .before) .pre .0 .scale-most))
+    (λ c κs. tt)
     fill-values-requires
     fill-deviations-requires
-    (λ c κs. start (c .before .before .before .before .before .before) .pre .0 .measured)
-    (λ c. let o = c .before .before .before .before .before .before .before in omega (arith, mul-le-mul (few o) (start o .pre .0 .scale-most)))
+    measure-requires
+    (λ c. let o = c .before .before .before .before .before .before .before .before .before in omega (arith, mul-le-mul (few o) (s o .pre .0 .scale-most)))
     (λ c. search needs)
     (λ c. search needs)
     returns)

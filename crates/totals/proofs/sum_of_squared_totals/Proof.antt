@@ -1,21 +1,43 @@
--- `sum_of_squared_totals`: the local rooms are always enough. Assumes nothing.
+-- `sum_of_squared_totals`: past the blocks the answer is the sum over their words. Assumes nothing.
 use borrow.Author.Needs.{needs}
-use mathlib.Core.Path.{ap, _∙_}
+use mathlib.Core.Path.{_≡_, refl, sym, _∙_}
 use denote.Ref.{now}
 use lib.IntN.{natAbs}
-use Rattle.meaning.specs.declared.Verdict.{Verdict}
 use Rattle.meaning.specs.Analysis.{squaredTotals}
-use Rattle.meaning.specs.Calls.{squareSum}
-use Rattle.totals.proofs.Refusing.{rooms-enough}
+use Rattle.meaning.specs.Refusals.{_⨾_, accepted, clean}
+use Rattle.meaning.specs.Calls.{slices}
+use Rattle.readings.proofs.Answers.{square-refused}
+use Rattle.totals.proofs.Refusing.{words-long, lay, reached, squared-refused, squared-weighed}
 use Rattle.totals.proofs.sum_of_squared_totals.Statement.{statement}
 use Rattle.totals.proofs.sum_of_squared_totals.Tie as tie
 
+-- past the blocks
+passed : (c : tie.After-enum-told) → slices (c .before .before .before .before .before .args .head) (now (c .before .before .before .before .before .args .blocks)) (now (c .before .before .before .before .before .args .readings))
+    ⨾ clean (c .before .before .before .before .before .args .head) (now (c .before .before .before .before .before .args .blocks)) ≡ accepted
+passed c = sym (c .before .before .developed .ensures .0) ∙ c .enum-told .given .1
+
 returns : tie.Need-returns
-returns c = let a = c .before .before .before .before .before .before .args in
-    c .before .before .all-totals .ensures .0
-    ∙ ap (λ (v : Verdict). squareSum v (natAbs (squaredTotals (a .head) (now (a .blocks)) (now (a .readings))))) (rooms-enough (a .head) (now (a .blocks)) (now (a .readings)))
+returns c =
+    let a = c .before .before .before .before .before .before .before .args in
+    let e = squared-refused (a .head) (now (a .blocks)) (now (a .readings)) _ _ (sym (c .before .before .before .before .developed .ensures .0) ∙ c .before .before .number .given .1) in
+    c .no-sum .ensures ∙ search (square-refused _ (natAbs (squaredTotals (a .head) (now (a .blocks)) (now (a .readings)))) _ _ e)
+
+returns-2 : tie.Need-returns-2
+returns-2 c =
+    let p = c .before .before .before .before in
+    let w = p .before .before .developed .ensures .1 in
+    c .before .weigh .ensures .0 ∙ squared-weighed _ _ _ _ (passed p) (lay _ _ _ _ _ refl w (passed p)) (reached _ _ _ _ _ refl w (passed p))
 
 pub sum-of-squared-totals-spec : {M : Type 1} → statement M
 sum-of-squared-totals-spec =
     tie.close
-    (tie.spec (λ c. search needs) (λ c. search needs) (λ c κs. search needs) returns)
+    (tie.spec
+    (λ c κs. search needs)
+    (λ c. search needs)
+    (λ c κs. search needs)
+    returns
+    (λ c. search needs)
+    (λ c. words-long _ _ _ _ _ refl (c .before .before .before .developed .ensures .1))
+    (λ c. search needs)
+    (λ c κs. search needs)
+    returns-2)

@@ -1,77 +1,50 @@
--- `total`: past the tests the words are the development, so what is worked out from them is the total. Assumes nothing.
+-- `total`: past the tests of the blocks and of the object, the weighing's verdict and what stands at the object's place. Assumes nothing.
 use borrow.Author.Needs.{needs}
-use mathlib.Core.Path.{_≡_, sym, _∙_}
+use mathlib.Core.Path.{_≡_, refl, sym, ap, ap₂, _∙_}
 use mathlib.Core.List.{List}
-use Prim.Native.Nat.{ℕ, _*_, _≤_}
 use native.Mathlib.Omega.{arith}
 use denote.Ref.{now}
-use lib.IntN.{ℤ}
-use Rattle.algebra.proofs.Signs.{read-back}
-use Rattle.meaning.specs.declared.Head.{Head}
-use Rattle.meaning.specs.Design.{blocks}
-use Rattle.meaning.specs.Refusals.{_⨾_, accepted, clean, inReach}
+use lib.IntN.{ℤ, pos}
+use lib.ListN.{getD}
+use mir.Syntax.{w64}
+use mir.Val.{SFits}
+use mir.Facts.{toZ-ofZ}
+use Rattle.meaning.specs.declared.Verdict.{Verdict}
+use Rattle.meaning.specs.declared.SquareSum.{SquareSum}
+use Rattle.meaning.specs.Refusals.{_⨾_, accepted, clean}
 use Rattle.meaning.specs.Calls.{slices}
-use Rattle.laws.proofs.Chains.{Sound, Readings, given-yes, sliced, opened}
-use Rattle.totals.proofs.Developing.{Laid, laid, develop-accepts}
-use Rattle.totals.proofs.Refusing.{totalled, total-refused, total-no-object, total-reach, no-total-is, total-is-given}
+use Rattle.weighing.proofs.Developing.{Laid}
+use Rattle.totals.proofs.Refusing.{words-long, lay, reached, total-refused, no-total-is, total-no-object, total-weighed}
 use Rattle.totals.proofs.total.Statement.{statement}
 use Rattle.totals.proofs.total.Tie as tie
 
--- past the tests of the blocks
-passed : (c : tie.After-enum-told) →
-    slices (c .before .before .before .before .args .head) (now (c .before .before .before .before .args .blocks)) (now (c .before .before .before .before .args .readings))
-    ⨾ clean (c .before .before .before .before .args .head) (now (c .before .before .before .before .args .blocks)) ≡ accepted
-passed c = sym (c .before .before .blocks-refusal .ensures) ∙ c .enum-told .given .1
-
--- past that of the readings
-close : (c : tie.After-enum-told2) → inReach (now (c .before .before .before .before .before .before .before .before .args .readings)) ≡ accepted
-close c = sym (c .before .before .reach-refusal .ensures) ∙ c .enum-told2 .given .1
-
--- once the words are written
-module _ (c : tie.After-develop) where
+-- past the blocks
+module _ (c : tie.After-enum-told) where
   abbrev start : tie.Start
-  start = c .before .before .before .before .before .before .before .before .before .before
+  start = c .before .before .before .before .before
 
-  abbrev head : Head
-  head = start .args .head
+  passed : slices (start .args .head) (now (start .args .blocks)) (now (start .args .readings)) ⨾ clean (start .args .head) (now (start .args .blocks)) ≡ accepted
+  passed = sym (c .before .before .developed .ensures .0) ∙ c .enum-told .given .1
 
-  abbrev bytes : List ℕ
-  bytes = now (start .args .blocks)
-
-  abbrev ys : List ℤ
-  ys = now (start .args .readings)
-
-  stands : Sound head bytes × Readings head ys
-  stands = totalled _ _ _ (passed (c .before .before .before .before .before .before)) (close (c .before .before))
-
-  roomy : 2 * blocks head ≤ 2600
-  roomy = omega (arith, stands .0 .sizes .blocks-most)
-
-  abbrev words : List ℕ
-  words = c .develop .last .1 .1 .0
-
-  lay : Laid head bytes ys words
-  lay = laid head bytes ys _ words (stands .0) (stands .1) roomy (c .develop .ensures .1 ∙ given-yes _ _ _ (develop-accepts head bytes _ (stands .0) roomy))
+  laid : Laid (start .args .head) (now (start .args .blocks)) (c .before .before .developed .last .1 .1 .1 .0)
+  laid = lay _ _ _ _ _ refl (c .before .before .developed .ensures .1) passed
 
 returns : tie.Need-returns
 returns c =
     c .no-total .ensures
-    ∙ no-total-is _ _ _ _ _ _ (total-refused _ _ _ _ _ _ (sym (c .before .before .before .before .blocks-refusal .ensures) ∙ c .before .before .number .given .1))
+    ∙ no-total-is _ _ _ _ _ _ (total-refused _ _ _ _ _ _ (sym (c .before .before .before .before .developed .ensures .0) ∙ c .before .before .number .given .1))
 
 returns-2 : tie.Need-returns-2
-returns-2 c = c .no-total2 .ensures ∙ no-total-is _ _ _ _ _ _ (total-no-object _ _ _ _ (passed (c .before .before)) (search needs))
+returns-2 c = c .no-total2 .ensures ∙ no-total-is _ _ _ _ _ _ (total-no-object _ _ _ _ (passed (c .before .before .before)) (search needs))
 
 returns-3 : tie.Need-returns-3
 returns-3 c =
-    c .no-total3 .ensures
-    ∙ no-total-is _ _ _ _ _ _ (total-reach _ _ _ _ (passed (c .before .before .before .before .before .before)) (search needs)
-    ∙ sym (c .before .before .before .before .reach-refusal .ensures) ∙ c .before .before .number2 .given .1)
-
-returns-4 : tie.Need-returns-4
-returns-4 c =
-    let d = c .before .before .before in
-    total-is-given _ _ _ _ _ (total-reach _ _ _ _ (passed (d .before .before .before .before .before .before)) (search needs) ∙ close (d .before .before))
-    (read-back _ (c .object-total .ok) ∙ c .object-total .ensures ∙ lay d .totals _)
+    let p = c .before .before .before .before .before .before .before in
+    let w = c .before .before .weigh .ensures in
+    let x : ℤ = getD (c .before .before .weigh .last .1 .1 .1 .0) (start p .args .object) (pos 0) in
+    let fits : SFits w64 x = record { sfits = search (c .total .given) } in
+    ap₂ (λ (v : Verdict) (z : ℤ). record { verdict = v; total = z }) (ap (λ (r : SquareSum). r .verdict) (w .0)) (toZ-ofZ fits ∙ ap (λ (l : List ℤ). getD l (start p .args .object) (pos 0)) (w .1))
+    ∙ total-weighed _ _ _ _ (passed p) _ (laid p) (reached _ _ _ _ _ refl (p .before .before .developed .ensures .1) (passed p)) (search needs)
 
 pub total-spec : {M : Type 1} → statement M
 total-spec =
@@ -82,17 +55,12 @@ total-spec =
     (λ c κs. search needs)
     returns
     (λ c. search needs)
-    (λ c. let f = sliced _ _ _ (opened _ _ (passed c) .0) .sizes in omega arith)
+    (λ c. let f = laid (c .before) .sizes in omega arith)
     (λ c κs. search needs)
     returns-2
-    (λ c κs. search needs)
+    (λ c. words-long _ _ _ _ _ refl (c .before .before .before .before .before .developed .ensures .1))
     (λ c. search needs)
     (λ c κs. search needs)
-    returns-3
-    (λ c. search needs)
-    (λ c. search needs)
-    (λ c κs. search needs)
-    (λ c. search needs)
-    (λ c. let f = stands (c .before .before) .0 .sizes in omega arith)
-    (λ c κs. let d = c .before .before in (lay d .weighed, omega (arith, stands d .0 .sizes .objects-most)))
-    returns-4)
+    (λ c. let f = laid (c .before .before .before .before .before .before) .sizes in omega arith)
+    (λ c. let f = laid (c .before .before .before .before .before .before) .sizes in omega arith)
+    returns-3)

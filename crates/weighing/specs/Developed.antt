@@ -1,0 +1,45 @@
+-- Signs and totals as they stand in the words of a developed design. Assumes nothing.
+use Prim.Native.Nat.{ℕ, _+_, _*_, _^_, _≤_, _<_}
+use mathlib.Core.Path.{_≡_}
+use mathlib.Core.List.{List}
+use lib.ListN.{getD, length}
+use lib.IntN.{ℤ, pos, _+ℤ_, _-ℤ_, _*ℤ_, natAbs}
+use Rattle.algebra.specs.Ranges.{sum, sumℕ}
+use Rattle.algebra.specs.Buffers.{over}
+use Rattle.meaning.specs.Analysis.{reading}
+use Rattle.words.specs.Bits.{bit}
+
+-- 1 where object i stands in the left word of block k, -1 where it stands in the right one, 0 elsewhere
+abbrev pub signIn : List ℕ → ℕ → ℕ → ℤ
+signIn words k i = pos (bit (getD words (2 * k) 0) i) -ℤ pos (bit (getD words (2 * k + 1) 0) i)
+
+-- T(i) over the words of b blocks
+unfoldable pub totalIn : List ℕ → List ℤ → ℕ → ℕ → ℤ
+totalIn words y b i = sum b (λ k. signIn words k i *ℤ reading y k)
+
+-- the sum of the squares of T(0) .. T(v - 1)
+abbrev pub squaredTotalsIn : List ℕ → List ℤ → ℕ → ℕ → ℕ
+squaredTotalsIn words y b v = sumℕ v (λ i. natAbs (totalIn words y b i) * natAbs (totalIn words y b i))
+
+-- words and readings for b blocks, with every reading in its range
+pub record Weighed (words : List ℕ) (y : List ℤ) (b : ℕ) : Type 0 where
+  pub blocks-most : b ≤ 1300
+  pub words-long : 2 * b ≤ length words
+  pub readings-long : b ≤ length y
+  pub readings-most : (k : ℕ) → k < b → natAbs (reading y k) ≤ 200000
+
+-- every word of b blocks has its objects below v
+pub record Within (words : List ℕ) (b v : ℕ) : Type 0 where
+  pub below : (c : ℕ) → c < 2 * b → getD words c 0 < 2 ^ v
+
+-- every object of the word w has its place in a room of totals, and at most B stands there
+pub record Room (totals : List ℤ) (w B : ℕ) : Type 0 where
+  pub held : (i : ℕ) → bit w i ≡ 1 → (i < length totals) × (natAbs (getD totals i (pos 0)) ≤ B)
+
+-- a room of totals after y was added for every object of the word w
+unfoldable pub added : ℕ → ℤ → List ℤ → List ℤ
+added w y totals = over (length totals) (λ i. getD totals i (pos 0) +ℤ pos (bit w i) *ℤ y) totals
+
+-- and after the reading of block k was added for its left word and taken away for its right one
+abbrev pub blockAdded : List ℕ → List ℤ → ℕ → List ℤ → List ℤ
+blockAdded words y k totals = added (getD words (2 * k + 1) 0) (pos 0 -ℤ reading y k) (added (getD words (2 * k) 0) (reading y k) totals)

@@ -1,18 +1,17 @@
 -- The judgement, by what its tests gave: the test over two tables is the test of balance, and each way out of the call has its answer.
 --     pair-company-other, pair-opposition-other, pair-even    the test of one pair
 --     tables-more, tables-fail                                one turn of the test over two tables
---     room-enough, words-left, company-left, opposition-left  what the counting leaves
 --     tables-tell, side-size                                  what the tables and the words of an accepted block list say
 --     tables-refused, tables-accepted                         the judgement over two tables
 --     judged-refused, judged-accepted                         the answer of the call
 -- Assumes nothing.
 use Prim.Native.Nat.{ℕ, _+_, _-_, _*_, _≤_, _<_}
 use mathlib.Core.Path.{_≡_, refl, ap, ap₂, _∙_}
-use mathlib.Core.Bool.{Bool, true, false, _&&_}
+use mathlib.Core.Bool.{true, false, _&&_}
 use mathlib.Core.List.{List, [], replicate}
 use native.Mathlib.Nat.{add-le-add, mul-le-mul}
 use native.Mathlib.Omega.{arith}
-use borrow.Author.Tests.{eq-eqb, ne-eqb, le-leb}
+use borrow.Author.Tests.{eq-eqb, ne-eqb}
 use lib.Dec.{eqb}
 use lib.ListN.{length, getD}
 use Rattle.algebra.specs.Ranges.{sumℕ}
@@ -22,16 +21,14 @@ use Rattle.algebra.proofs.Sums.{sumℕ-le-const}
 use Rattle.algebra.proofs.Tests.{all-cong, all-more, all-fails}
 use Rattle.meaning.specs.declared.Head.{Head}
 use Rattle.meaning.specs.declared.Judged.{Judged}
-use Rattle.meaning.specs.declared.Verdict.{Verdict}
-use Rattle.meaning.specs.declared.Verdict.the-variants.{Accepted, Refused}
 use Rattle.meaning.specs.Design.{objects, blocks, occ, left, right, company, opposition, balanced, beta}
-use Rattle.meaning.specs.Refusals.{accepted, refused, test, _⨾_, room}
-use Rattle.meaning.specs.Calls.{wordAt, designVerdict, developVerdict, wordsUnder, judgeVerdict, judged, noParameters, noTable, tableOf, companyTable, oppositionTable}
+use Rattle.meaning.specs.Refusals.{accepted, refused, test}
+use Rattle.meaning.specs.Calls.{wordAt, designVerdict, wordsUnder, judgeVerdict, judged, noParameters, tableOf, companyTable, oppositionTable}
 use Rattle.laws.proofs.Chains.{Sound, sound, given-yes}
 use Rattle.laws.proofs.Clean.{block-once, left-objects, left-length}
 use Rattle.words.specs.Bits.{bit}
 use Rattle.words.proofs.Sides.{ones-word}
-use Rattle.pairs.specs.Meetings.{entry, companyUnder, oppositionUnder}
+use Rattle.pairs.specs.Meetings.{entry}
 use Rattle.balance.specs.Tables.{pairEven, rowEven, tablesEven, tablesJudged}
 
 -- ---- the test of one pair
@@ -51,19 +48,19 @@ module _ (c o : List ℕ) (l1 l2 j : ℕ) where
 
 -- ---- the test over two tables
 
-module _ (c o : List (List ℕ)) where
+module _ (c o : List (List ℕ)) (l1 l2 : ℕ) where
   -- no row, as the loop begins
-  pub tables-none : tablesEven c o 0 ≡ true
+  pub tables-none : tablesEven c o l1 l2 0 ≡ true
   unfolding tablesEven
   tables-none = refl
 
   -- one row more
-  pub tables-more : (i : ℕ) → tablesEven c o i ≡ true → rowEven (getD c i []) (getD o i []) (entry c 1 0) (entry o 1 0) i ≡ true → tablesEven c o (i + 1) ≡ true
+  pub tables-more : (i : ℕ) → tablesEven c o l1 l2 i ≡ true → rowEven (getD c i []) (getD o i []) l1 l2 i ≡ true → tablesEven c o l1 l2 (i + 1) ≡ true
   unfolding tablesEven
   tables-more i before here = all-more i _ before here
 
   -- a row that fails
-  pub tables-fail : (v i : ℕ) → i < v → rowEven (getD c i []) (getD o i []) (entry c 1 0) (entry o 1 0) i ≡ false → tablesEven c o v ≡ false
+  pub tables-fail : (v i : ℕ) → i < v → rowEven (getD c i []) (getD o i []) l1 l2 i ≡ false → tablesEven c o l1 l2 v ≡ false
   unfolding tablesEven
   tables-fail v i l here = all-fails v i _ l here
 
@@ -82,33 +79,11 @@ module _ (h : Head) (d : List ℕ) (s : Sound h d) where
       ap₂ eqb (entry-of (objects h) f i j (omega arith) l (omega arith)) (entry-of (objects h) f 1 0 (omega arith) (omega arith) (omega arith))
 
   -- the test over the two tables of a sound design is the test of balance
-  pub tables-balanced : tablesEven (tableOf (objects h) (company h d)) (tableOf (objects h) (opposition h d)) (objects h) ≡ balanced h d
+  pub tables-balanced : (let c = tableOf (objects h) (company h d) in let o = tableOf (objects h) (opposition h d) in tablesEven c o (entry c 1 0) (entry o 1 0) (objects h)) ≡ balanced h d
   unfolding tablesEven balanced
   tables-balanced = all-cong (objects h) _ _ (λ i l. all-cong i _ _ (λ j m. ap₂ _&&_ (same (company h d) i j l m) (same (opposition h d) i j l m)))
 
--- ---- what the counting leaves in a room of 2600 words and in two tables of zeros
-
-module _ (h : Head) (d : List ℕ) {len : ℕ} (whole : len ≡ 2600) where
-  -- room for 2600 words is always enough
-  pub room-enough : developVerdict h d len ≡ designVerdict h d
-  unfolding developVerdict
-  room-enough = by (designVerdict h d) refl
-    where
-      by : (a : Verdict) → designVerdict h d ≡ a → a ⨾ room len (2 * blocks h) ≡ a
-      by Accepted e = ap (λ (t : Bool). test t 10 0) (le-leb (2 * blocks h) len (let f = sound h d e .sizes in omega arith))
-      by (Refused k at) e = refl
-
-  -- the words are those of the design
-  pub words-left : (z : List ℕ) {w : List ℕ} → w ≡ wordsUnder (developVerdict h d len) h d z → w ≡ wordsUnder (designVerdict h d) h d z
-  words-left z e = e ∙ ap (λ (v : Verdict). wordsUnder v h d z) room-enough
-
-  -- the first table, of zeros before, is the table of company
-  pub company-left : {z t : List (List ℕ)} → z ≡ noTable → t ≡ companyUnder (developVerdict h d len) h d z → t ≡ companyTable h d
-  company-left z e = e ∙ ap₂ (λ (v : Verdict) (u : List (List ℕ)). companyUnder v h d u) room-enough z
-
-  -- the second is the table of opposition
-  pub opposition-left : {z t : List (List ℕ)} → z ≡ noTable → t ≡ oppositionUnder (developVerdict h d len) h d z → t ≡ oppositionTable h d
-  opposition-left z e = e ∙ ap₂ (λ (v : Verdict) (u : List (List ℕ)). oppositionUnder v h d u) room-enough z
+-- ---- how large an entry is
 
 module _ (h : Head) (d : List ℕ) where
   -- no two objects oppose more often than twice a block
@@ -145,8 +120,8 @@ module _ (h : Head) (d : List ℕ) (e : designVerdict h d ≡ accepted) where
     opposition-is = q ∙ given-yes (designVerdict h d) _ _ e
 
     -- the test over them is the test of balance
-    pub tables-tell : tablesEven c o (objects h) ≡ balanced h d
-    tables-tell = ap₂ (λ (x y : List (List ℕ)). tablesEven x y (objects h)) company-is opposition-is ∙ tables-balanced h d (sound h d e)
+    pub tables-tell : tablesEven c o (entry c 1 0) (entry o 1 0) (objects h) ≡ balanced h d
+    tables-tell = ap₂ (λ (x y : List (List ℕ)). tablesEven x y (entry x 1 0) (entry y 1 0) (objects h)) company-is opposition-is ∙ tables-balanced h d (sound h d e)
 
     -- the company of the objects 1 and 0
     pub company-first : entry c 1 0 ≡ company h d 1 0
@@ -167,12 +142,12 @@ module _ (h : Head) (d : List ℕ) (e : designVerdict h d ≡ accepted) where
 -- ---- the answers
 
 -- the judgement over two tables that fail the test
-pub tables-refused : (v b p : ℕ) (c o : List (List ℕ)) {j : Judged} → tablesEven c o v ≡ false → j ≡ record { verdict = refused 6 0; parameters = noParameters } → j ≡ tablesJudged v b p c o
+pub tables-refused : (v b p : ℕ) (c o : List (List ℕ)) {j : Judged} → tablesEven c o (entry c 1 0) (entry o 1 0) v ≡ false → j ≡ record { verdict = refused 6 0; parameters = noParameters } → j ≡ tablesJudged v b p c o
 unfolding tablesJudged
 tables-refused v b p c o f is = rw f is
 
 -- over two that pass it, from each parameter
-pub tables-accepted : (v b p : ℕ) (c o : List (List ℕ)) (v′ b′ r′ p′ l1′ l2′ : ℕ) → tablesEven c o v ≡ true
+pub tables-accepted : (v b p : ℕ) (c o : List (List ℕ)) (v′ b′ r′ p′ l1′ l2′ : ℕ) → tablesEven c o (entry c 1 0) (entry o 1 0) v ≡ true
     → v′ ≡ v → b′ ≡ b → r′ ≡ (entry o 1 0 - entry c 1 0) * (v - 1) → p′ ≡ p → l1′ ≡ entry c 1 0 → l2′ ≡ entry o 1 0
     → _≡_ {A = Judged} (record { verdict = accepted; parameters = record { v = v′; b = b′; r = r′; p = p′; l1 = l1′; l2 = l2′ } }) (tablesJudged v b p c o)
 unfolding tablesJudged
@@ -184,7 +159,7 @@ unfolding judgeVerdict
 judged-refused h d number at e is = rw e is
 
 -- it is accepted: the judgement is that over the two tables
-pub judged-accepted : (h : Head) (d : List ℕ) (p : ℕ) (c o : List (List ℕ)) → designVerdict h d ≡ accepted → tablesEven c o (objects h) ≡ balanced h d
+pub judged-accepted : (h : Head) (d : List ℕ) (p : ℕ) (c o : List (List ℕ)) → designVerdict h d ≡ accepted → tablesEven c o (entry c 1 0) (entry o 1 0) (objects h) ≡ balanced h d
     → p ≡ h .p → entry c 1 0 ≡ company h d 1 0 → entry o 1 0 ≡ opposition h d 1 0 → tablesJudged (objects h) (blocks h) p c o ≡ judged h d
 unfolding judgeVerdict tablesJudged beta
 judged-accepted h d p c o e f ep e1 e2 = rw (e, f, ep, e1, e2)

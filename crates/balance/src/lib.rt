@@ -1,28 +1,14 @@
-// The two pair tables of a design, and the judgement that reads them.
+// The judgement of a design, read off its two pair tables.
 use meaning::Head;
 use meaning::Judged;
 use meaning::Parameters;
 use meaning::Verdict;
 ghost use mathlib.Core.Path.{_≡_};
 ghost use Prim.Native.Nat.{_-_, _≤_};
-ghost use Rattle.meaning.specs.Calls.{companyTable, oppositionTable, designVerdict, wordsUnder, judged, noParameters};
+ghost use Rattle.meaning.specs.Calls.{designVerdict, wordsUnder, judged, noParameters};
 ghost use Rattle.meaning.specs.Refusals.{refused};
 ghost use Rattle.pairs.specs.Meetings.{entry};
-ghost use Rattle.balance.specs.Tables.{pairTable, rowEven, tablesEven, tablesJudged};
-
-// In how many blocks two objects share a side: row i, column j. On the diagonal, in how many object i stands. Zeros beyond the objects, and on refusal.
-pub fn company(head: Head, blocks: &[u8]) -> [[u64; 50]; 50]
-    ensures { λ r. ⌜ r ≡ companyTable head (now (blocks .entry)) ⌝ }
-{
-    pair_table(false, head, blocks)
-}
-
-// In how many blocks two objects stand on opposite sides: row i, column j. Zeros on the diagonal, beyond the objects, and on refusal.
-pub fn opposition(head: Head, blocks: &[u8]) -> [[u64; 50]; 50]
-    ensures { λ r. ⌜ r ≡ oppositionTable head (now (blocks .entry)) ⌝ }
-{
-    pair_table(true, head, blocks)
-}
+ghost use Rattle.balance.specs.Tables.{rowEven, tablesEven, tablesJudged};
 
 // The verdict on a design, with its parameters where it is balanced. All of it is read off the two tables; the side size is that of a side's word.
 pub fn judge(head: Head, blocks: &[u8]) -> Judged
@@ -65,11 +51,11 @@ fn judge_tables(
     requires { ⌜ (1 ≤ v) × (v ≤ 50) × (entry (now opposition) 1 0 ≤ 2600) ⌝ }
     ensures { λ r. ⌜ r ≡ tablesJudged v b p (now (company .entry)) (now (opposition .entry)) ⌝ }
 {
-    if !tables_even(company, opposition, v) {
-        return refused_judgement(6, 0);
-    }
     let l1 = company[1][0];
     let l2 = opposition[1][0];
+    if !tables_even(company, opposition, v, l1, l2) {
+        return refused_judgement(6, 0);
+    }
     let beta = less(l2, l1);
     let r = beta * (v as u64 - 1);
     let parameters = Parameters {
@@ -84,18 +70,6 @@ fn judge_tables(
         verdict: Verdict::Accepted,
         parameters,
     }
-}
-
-// The pair table of a design: of opposition, or of company. On refusal no meeting was added.
-fn pair_table(opposite: bool, head: Head, blocks: &[u8]) -> [[u64; 50]; 50]
-    ensures { λ r. ⌜ r ≡ pairTable opposite head (now (blocks .entry)) ⌝ }
-{
-    let zeros = [[0u64; 50]; 50];
-    let mut words = [0u64; 2600];
-    let mut company = zeros;
-    let mut opposition = zeros;
-    pairs::tables(head, blocks, &mut words, &mut company, &mut opposition);
-    if opposite { opposition } else { company }
 }
 
 // Whether the first i entries of a row of each table are l1 and l2.
@@ -114,13 +88,17 @@ fn row_even(company: &[u64; 50], opposition: &[u64; 50], i: usize, l1: u64, l2: 
     true
 }
 
-// Whether two tables say that a design is balanced: every pair of the v objects has the entries of the objects 1 and 0.
-fn tables_even(company: &[[u64; 50]; 50], opposition: &[[u64; 50]; 50], v: usize) -> bool
+// Whether every pair of the first v objects has the entries l1 and l2.
+fn tables_even(
+    company: &[[u64; 50]; 50],
+    opposition: &[[u64; 50]; 50],
+    v: usize,
+    l1: u64,
+    l2: u64,
+) -> bool
     requires { ⌜ v ≤ 50 ⌝ }
-    ensures { λ r. ⌜ r ≡ tablesEven (now (company .entry)) (now (opposition .entry)) v ⌝ }
+    ensures { λ r. ⌜ r ≡ tablesEven (now (company .entry)) (now (opposition .entry)) l1 l2 v ⌝ }
 {
-    let l1 = company[1][0];
-    let l2 = opposition[1][0];
     for i in 0..v {
         if !row_even(&company[i], &opposition[i], i, l1, l2) {
             return false;

@@ -6,7 +6,8 @@ use lib.ListN.{length}
 use Rattle.meaning.specs.Refusals.{accepted}
 use Rattle.meaning.specs.Calls.{designVerdict, wordsUnder, companyTable, oppositionTable}
 use Rattle.laws.proofs.Chains.{sound}
-use Rattle.balance.proofs.Judging.{room-enough, words-left, company-left, opposition-left, side-size, tables-tell, company-first, opposition-first, first-most, judged-refused, judged-accepted}
+use Rattle.pairs.proofs.Whole.{room-enough, words-left, company-left, opposition-left}
+use Rattle.balance.proofs.Judging.{side-size, tables-tell, company-first, opposition-first, first-most, judged-refused, judged-accepted}
 use native.Mathlib.Omega.{arith}
 use borrow.Author.Needs.{needs}
 use Rattle.balance.proofs.judge_developed.Statement.{statement}

@@ -12,7 +12,7 @@ use Rattle.balance.proofs.judge_tables.Tie as tie
 
 returns : tie.Need-returns
 returns c =
-    let a = c .before .before .before .args in
+    let a = c .before .before .before .before .before .args in
     tables-refused (a .v) (a .b) (a .p) (now (a .company)) (now (a .opposition)) (sym (c .before .before .tables-even .ensures) ∙ not-true _ (c .before .if1 .taken)) (search needs)
 
 mul-r : tie.Need-mul-r
@@ -25,20 +25,20 @@ mul-r c =
 returns-2 : tie.Need-returns-2
 returns-2 c =
     let a = c .before .before .before .before .before .args in
-    tables-accepted (a .v) (a .b) (a .p) (now (a .company)) (now (a .opposition)) _ _ _ _ _ _ (sym (c .before .before .before .before .tables-even .ensures) ∙ not-false _ (c .before .before .before .if1 .left))
+    tables-accepted (a .v) (a .b) (a .p) (now (a .company)) (now (a .opposition)) _ _ _ _ _ _ (sym (c .before .before .tables-even .ensures) ∙ not-false _ (c .before .if1 .left))
     (search needs) (search needs) (rw (c .less .ensures) (search needs)) (search needs) (search needs) (search needs)
 
 pub judge-tables-spec : {M : Type 1} → statement M
 judge-tables-spec =
     tie.close
     (tie.spec
+    (λ c. search needs)
+    (λ c. search needs)
+    (λ c. search needs)
+    (λ c. search needs)
     (λ c κs. search needs)
     (λ c κs. search needs)
     returns
-    (λ c. search needs)
-    (λ c. search needs)
-    (λ c. search needs)
-    (λ c. search needs)
     (λ c κs. search needs)
     (λ c. search needs)
     mul-r

@@ -1,10 +1,10 @@
--- `balance::pair_table` meets its contract: the counting leaves both tables, and zeros on a refusal. Assumes nothing.
+-- `tables::pair_table` meets its contract: the counting leaves both tables, and zeros on a refusal. Assumes nothing.
 use mathlib.Core.Path.{refl}
 use denote.Ref.{now}
-use Rattle.balance.proofs.Judging.{company-left, opposition-left}
+use Rattle.pairs.proofs.Whole.{company-left, opposition-left}
 use borrow.Author.Needs.{needs}
-use Rattle.balance.proofs.pair_table.Statement.{statement}
-use Rattle.balance.proofs.pair_table.Tie as tie
+use Rattle.tables.proofs.pair_table.Statement.{statement}
+use Rattle.tables.proofs.pair_table.Tie as tie
 
 returns : tie.Need-returns
 returns c =

@@ -1,0 +1,2 @@
+-- Where the promises determine the outcome.
+pub mod Determined

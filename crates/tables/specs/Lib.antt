@@ -1,0 +1,2 @@
+-- What the private function fills.
+pub mod Pair

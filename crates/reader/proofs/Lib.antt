@@ -1,4 +1,2 @@
--- What stands at a place by the tests, what a field that was found tells, and what the promises determine.
-pub mod Answers
-pub mod Within
+-- What the promises determine.
 pub mod Determined

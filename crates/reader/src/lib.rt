@@ -1,7 +1,7 @@
-// Fields of a job file: a tag byte, a length of two bytes, a body. Whether the field that is wanted stands at a place, and where its body is.
-// `Reader` holds the lent bytes and a place; its functions take it apart and call the two functions on plain bytes that they stand on.
+// A reader of a job file: the lent bytes and a place. Its functions take it apart and call the two functions on plain bytes that they stand on.
+use framing::field_at;
+use framing::past_at;
 use meaning::Field;
-use numbers::two_bytes;
 ghost use mathlib.Core.Path.{_≡_};
 ghost use Rattle.meaning.specs.File.{fieldAt, fieldNext};
 
@@ -9,42 +9,6 @@ ghost use Rattle.meaning.specs.File.{fieldAt, fieldNext};
 pub struct Reader<'a> {
     pub bytes: &'a [u8],
     pub place: usize,
-}
-
-// The field at a place of plain bytes. No place wraps: the start is looked for by what is left before the end.
-fn field_at(bytes: &[u8], place: usize, tag: u8, length: usize) -> Field
-    ensures { λ r. ⌜ r ≡ fieldAt (now (bytes .entry)) place tag length ⌝ }
-{
-    if bytes.len() < 3 {
-        return Field::Unfit(1, place);
-    }
-    if bytes.len() - 3 < place {
-        return Field::Unfit(1, place);
-    }
-    let found = bytes[place];
-    let told = two_bytes(bytes, place + 1) as usize;
-    if found != tag {
-        return Field::Unfit(2, place);
-    }
-    if told != length {
-        return Field::Unfit(3, place);
-    }
-    let start = place + 3;
-    if length <= bytes.len() - start {
-        let next = start + length;
-        return Field::Body(start, next);
-    }
-    Field::Unfit(1, place)
-}
-
-// The place past that field; a refusal leaves the place as it is.
-fn past_at(bytes: &[u8], place: usize, tag: u8, length: usize) -> usize
-    ensures { λ r. ⌜ r ≡ fieldNext (fieldAt (now (bytes .entry)) place tag length) place ⌝ }
-{
-    match field_at(bytes, place, tag, length) {
-        Field::Body(_, next) => next,
-        Field::Unfit(_, _) => place,
-    }
 }
 
 // A reader at a place.

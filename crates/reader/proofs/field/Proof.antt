@@ -50,10 +50,10 @@ use Rattle.reader.proofs.Reader as T
 use Rattle.reader.proofs.Reader.Laws as T′
 use Rattle.meaning.proofs.Field as S
 use Rattle.meaning.proofs.Field.Laws as S′
-use Rattle.reader.proofs.field_at as step
-use Rattle.reader.proofs.field_at.Symbol as step-def
-use Rattle.reader.proofs.field_at.Symbol.{name as #reader·field-at}
-use Rattle.reader.proofs.field_at.Met as step-thm
+use Rattle.framing.proofs.field_at as step
+use Rattle.framing.proofs.field_at.Symbol as step-def
+use Rattle.framing.proofs.field_at.Symbol.{name as #framing·field-at}
+use Rattle.framing.proofs.field_at.Met as step-thm
 use Rattle.reader.proofs.field.Key.{name as #reader·field}
 use Rattle.reader.proofs.field as field
 use Rattle.reader.proofs.field.Statement as stated
@@ -131,7 +131,7 @@ module _ {M : Type 1} (𝓤 : URA M) (H : Heap 𝓤) (A : Atoms 𝓤) (W : Given
       suffices ! _ (ends-at 𝓤 H A field.ended stayed (field.clauses 𝓤 H A mem run) W (((κ, tt), (q, tt), tt, (d, (g, (n, tt))), at), tt) u r (tt, (tt, (tt, tt))) (tt, (tt, (tt, tt)))) $ says ! e $
       move ! (1 ∷ []) $ frame ! $ nothing ! $ owned ! usize (Is usize) (uint-makes 𝓤 H A W w64) n _ (refl, okn) $ fjoin ! $ owned ! u8 (Is u8) (uint-makes 𝓤 H A W w8) g _ (refl, okg) $ fjoin ! $ move ! (2 ∷ 0 ∷ []) $ fjoin ! $ frame ! $ done !
 
-  module _ (C : Calls 𝓤 H) (Λ : Loops 𝓤 H) (fm : FmC 𝓤 H (W .laws) C) (known : Triple 𝓤 (C #reader·field-at) (FieldAt 𝓤 H A mem run)) where
+  module _ (C : Calls 𝓤 H) (Λ : Loops 𝓤 H) (fm : FmC 𝓤 H (W .laws) C) (known : Triple 𝓤 (C #framing·field-at) (FieldAt 𝓤 H A mem run)) where
     walk : Holds (hasTy (T′.mir (named 0)) mach) × WT mach → ent 𝓤 (onEntry 𝓤 H A field.signature (κ, tt) (q, tt) (d, (g, (n, tt))) at) (WpFn 𝓤 H C Λ code.function (mach ∷ vint w8 g ∷ vint w64 n ∷ []) Post)
     walk wt =
         qed W (raw (onEntry 𝓤 H A field.signature (κ, tt) (q, tt) (d, (g, (n, tt))) at) ∷ []) ∵ enter ! C Λ code.function (mach ∷ vint w8 g ∷ vint w64 n ∷ []) _ $
@@ -149,13 +149,13 @@ module _ {M : Type 1} (𝓤 : URA M) (H : Heap 𝓤) (A : Atoms 𝓤) (W : Given
         move ! (13 ∷ 14 ∷ []) $ free1 ! $ move ! (11 ∷ 12 ∷ []) $ free1 ! $ move ! (9 ∷ 10 ∷ []) $ free1 ! $ move ! (7 ∷ 8 ∷ []) $ free1 ! $ move ! (5 ∷ 6 ∷ []) $ free1 ! $ move ! (3 ∷ 4 ∷ []) $ free1 ! $ free0 ! $ by ! (exits r u e)))))))))))
 
 module _ {M : Type 1} (𝓤 : URA M) (H : Heap 𝓤) (A : Atoms 𝓤) (W : Given 𝓤 H A) (mem : Memory → SProp 𝓤) (run : Routine → Fun 𝓤) where
-  field-walks : (C : Calls 𝓤 H) (Λ : Loops 𝓤 H) → FmC 𝓤 H (W .laws) C → Triple 𝓤 (C #reader·field-at) (FieldAt 𝓤 H A mem run)
+  field-walks : (C : Calls 𝓤 H) (Λ : Loops 𝓤 H) → FmC 𝓤 H (W .laws) C → Triple 𝓤 (C #framing·field-at) (FieldAt 𝓤 H A mem run)
       → Walks 𝓤 H A field.ended stayed (WpFn 𝓤 H C Λ code.function) (field.clauses 𝓤 H A mem run)
   field-walks C Λ fm known = walked 𝓤 H A field.ended stayed (field.clauses 𝓤 H A mem run) (WpFn 𝓤 H C Λ code.function) (λ κs. (LL.vals (T.the-type (namedLft 1 0 tt κs)) (T′.the-laws (namedLft 1 0 tt κs)), (uint-vals w8, (uint-vals w64, tt)))) (λ κs. (LL.tells (T.the-type (namedLft 1 0 tt κs)) (T′.the-laws (namedLft 1 0 tt κs)), (uint-tells w8, (uint-tells w64, tt))))
       (λ κs qs bounds a g are. via 𝓤 _ (fst∗ 𝓤 _ (emp 𝓤)) (walk 𝓤 H A W mem run (κs .0) (qs .0) (a .0) (a .1 .0) (a .1 .1 .0) (are .1 .0 .1) (are .1 .1 .0 .1) C Λ fm known (LL.lawful (T.the-type (namedLft 1 0 tt κs)) (T′.the-laws (namedLft 1 0 tt κs)) 𝓤 H A W .typed (a .0) _ (are .0) .0)))
 
 field-meets : {M : Type 1} (𝓤 : URA M) (H : Heap 𝓤) (A : Atoms 𝓤) (W : Given 𝓤 H A) (mem : Memory → SProp 𝓤) (run : Routine → Fun 𝓤) (𝓣 : Tables 𝓤 H)
-    → Triple 𝓤 (𝓣 .C #reader·field-at) (FieldAt 𝓤 H A mem run)
+    → Triple 𝓤 (𝓣 .C #framing·field-at) (FieldAt 𝓤 H A mem run)
     → Meets 𝓤 H A field.signature (WpFn 𝓤 H (𝓣 .C) (𝓣 .Λ) code.function) (field.spec 𝓤 H A mem run)
 field-meets 𝓤 H A W mem run 𝓣 known-step = walk-meets 𝓤 H A field.ended stayed W (goes-none 𝓤 H A W 1 B yes (λ κs x f. refl), (goes-none 𝓤 H A W 1 (λ _. u8) yes (λ κs x f. refl), (goes-none 𝓤 H A W 1 (λ _. usize) yes (λ κs x f. refl), tt))) (field.clauses 𝓤 H A mem run) (WpFn 𝓤 H (𝓣 .C) (𝓣 .Λ) code.function) (WpFn-mono 𝓤 H (W .laws) 𝓣 code.function)
     (field-walks 𝓤 H A W mem run (𝓣 .C) (𝓣 .Λ) (fmOf 𝓤 H (W .laws) 𝓣) known-step)
@@ -166,4 +166,4 @@ field-spec 𝓤 H 𝓜 𝓖 𝓡 =
     entered 𝓤 H (tripleOf 𝓤 H (𝓖 .A) field.signature (field.spec 𝓤 H (𝓖 .A) (𝓜 .mem) (𝓡 .run)))
     (tables 𝓤 H 𝓜 𝓡 code.env .C) (tables 𝓤 H 𝓜 𝓡 code.env .Λ) #reader·field code.function (code.unfolded 𝓤 H 𝓜 𝓡)
     (field-meets 𝓤 H (𝓖 .A) (givenOf 𝓤 H 𝓜 𝓖) (𝓜 .mem) (𝓡 .run) (tablesOf 𝓤 H 𝓜 (tables 𝓤 H 𝓜 𝓡 code.env))
-    (cited 𝓤 H (FieldAt 𝓤 H (𝓖 .A) (𝓜 .mem) (𝓡 .run)) 𝓜 𝓡 code.env #reader·field-at step-def.routine code.calls-reader·field-at (step-thm.met 𝓤 H 𝓜 𝓖 𝓡)))
+    (cited 𝓤 H (FieldAt 𝓤 H (𝓖 .A) (𝓜 .mem) (𝓡 .run)) 𝓜 𝓡 code.env #framing·field-at step-def.routine code.calls-framing·field-at (step-thm.met 𝓤 H 𝓜 𝓖 𝓡)))

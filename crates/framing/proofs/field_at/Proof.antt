@@ -1,11 +1,11 @@
--- `reader::field_at` meets its contract: at each `return` the tests that led there, as `omega` reads them, say which law of `Answers` holds.
+-- `framing::field_at` meets its contract: at each `return` the tests that led there, as `omega` reads them, say which law of `Answers` holds.
 -- Assumes nothing.
 use native.Mathlib.Omega.{arith}
 use denote.Ref.{now}
 use borrow.Author.Needs.{needs}
-use Rattle.reader.proofs.Answers.{no-start, wrong-tag, wrong-length, no-body, whole}
-use Rattle.reader.proofs.field_at.Statement.{statement}
-use Rattle.reader.proofs.field_at.Tie as tie
+use Rattle.framing.proofs.Answers.{no-start, wrong-tag, wrong-length, no-body, whole}
+use Rattle.framing.proofs.field_at.Statement.{statement}
+use Rattle.framing.proofs.field_at.Tie as tie
 
 returns : tie.Need-returns
 returns c =

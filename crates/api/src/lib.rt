@@ -59,7 +59,7 @@ pub extern "C" fn bench_solve(
     ensures { λ _. ⌜ now (answer .exit) ≡ laid (solvedSlots (solvedOf (now (bytes .entry)) (length (now (words .entry))) (length (now (values .entry))) (length (now (deviations .entry))))) (now (answer .entry)) ⌝ }
     ensures { λ _. ⌜ now (spread .exit) ≡ over 1 (λ _. spreadValue (solvedOf (now (bytes .entry)) (length (now (words .entry))) (length (now (values .entry))) (length (now (deviations .entry))) .spreading .spread)) (now (spread .entry)) ⌝ }
 {
-    let solved = job::solve(bytes, words, values, deviations);
+    let solved = solving::solve(bytes, words, values, deviations);
     lay_solved(solved, answer);
     let spreading = solved.spreading;
     let found = spreading.spread;

@@ -1,4 +1,3 @@
--- The laws of the places in a file and of what it holds, and what the promises determine.
-pub mod Places
-pub mod Holding
+-- The laws of reading, and what the promise determines.
+pub mod Reading
 pub mod Determined

@@ -31,7 +31,7 @@ fn listing_in_rooms(
     ensures { λ r. ⌜ r ≡ listedAnswer (now (bytes .entry)) (length (now (out .entry))) ⌝ }
     ensures { λ r. ⌜ now (out .exit) ≡ listedAfter (now (bytes .entry)) (now (out .entry)) ⌝ }
 {
-    let solved = job::solve(bytes, words, values, deviations);
+    let solved = solving::solve(bytes, words, values, deviations);
     render_first(solved, values, deviations, out)
 }
 

@@ -7,8 +7,8 @@ use borrow.Author.Needs.{needs}
 use denote.Ref.{now}
 use Rattle.algebra.proofs.Signs.{read-back}
 use Rattle.laws.proofs.Files.{file-job}
-use Rattle.job.proofs.Places.{third-low}
-use Rattle.job.proofs.Holding.{set-part, sum-part, read-is}
+use Rattle.places.proofs.Places.{third-low}
+use Rattle.job.proofs.Reading.{read-is}
 use Rattle.job.proofs.read.Statement.{statement}
 use Rattle.job.proofs.read.Tie as tie
 
@@ -24,9 +24,8 @@ returns c = rw (sym (c .before .before .before .before .read-refusal .ensures) �
 
 returns-2 : tie.Need-returns-2
 returns-2 c =
-    let third = c .before .before .third-at .ensures in
-    read-is (now (c .before .before .before .before .before .before .before .before .args .bytes)) _ _ _ _ (sym (c .before .before .before .before .before .before .read-refusal .ensures) ∙ c .before .before .before .before .enum-told .given .1) (c .before .before .before .head-of .ensures) third
-    (set-part _ _ _ third (c .before .eight-bytes .ensures)) (read-back _ (c .signed-64 .ok) ∙ sum-part _ _ _ third (c .signed-64 .ensures))
+    let same = read-is (now (c .before .before .before .before .before .before .before .before .args .bytes)) _ _ _ _ (sym (c .before .before .before .before .before .before .read-refusal .ensures) ∙ c .before .before .before .before .enum-told .given .1) (c .before .before .before .head-of .ensures) (c .before .before .third-at .ensures) (c .before .set-of .ensures) (read-back _ (c .sum-of .ok) ∙ c .sum-of .ensures) in
+    search needs
 
 pub read-spec : {M : Type 1} → statement M
 read-spec =
@@ -40,8 +39,6 @@ read-spec =
     (λ c κs. search needs)
     (λ c κs. search needs)
     (λ c. omega (arith, low c))
-    (λ c. omega (arith, low c))
     (λ c κs. search needs)
-    (λ c. omega (arith, low (c .before)))
     (λ c κs. search needs)
     returns-2)

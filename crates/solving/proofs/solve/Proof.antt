@@ -1,4 +1,4 @@
--- `job::solve` meets its contract: what the direct call is handed is what the file holds, its verdict is moved, and what it leaves in the rooms stays.
+-- `solving::solve` meets its contract: what the direct call is handed is what the file holds, its verdict is moved, and what it leaves in the rooms stays.
 -- Assumes nothing.
 use Prim.Native.Nat.{ℕ, _-_, _≤_}
 use mathlib.Core.Path.{_≡_, sym, _∙_}
@@ -6,18 +6,17 @@ use mathlib.Core.List.{List}
 use native.Mathlib.Omega.{arith}
 use borrow.Author.Needs.{needs}
 use denote.Ref.{now}
-use lib.ListN.{take, drop}
-use mir.Syntax.{w64}
-use mir.Val.{toZ, ofZ}
+use lib.ListN.{length, take, drop}
 use Rattle.algebra.proofs.Signs.{read-back}
 use Rattle.algebra.proofs.Filling.{over-long}
 use Rattle.meaning.specs.Refusals.{accepted}
-use Rattle.meaning.specs.File.{headOf, thirdAt, blocksOf, setOf, sumOf, readingsOf, fields, readVerdict, solveVerdict}
+use Rattle.meaning.specs.File.{headOf, thirdAt, blocksOf, readingsOf, fields}
 use Rattle.laws.proofs.Files.{filed}
-use Rattle.job.proofs.Places.{third-low, readings-most}
-use Rattle.job.proofs.Holding.{set-part, sum-part, blocks-part, readings-part, solve-place, solved-direct, words-direct, values-direct, deviations-direct}
-use Rattle.job.proofs.solve.Statement.{statement}
-use Rattle.job.proofs.solve.Tie as tie
+use Rattle.places.proofs.Places.{third-low, readings-most}
+use Rattle.places.proofs.Holding.{blocks-part, readings-part}
+use Rattle.solving.proofs.Holding.{solve-direct, solve-refused}
+use Rattle.solving.proofs.solve.Statement.{statement}
+use Rattle.solving.proofs.solve.Tie as tie
 
 -- past the first test the fields are there
 passed : (c : tie.After-enum-told) → fields (now (c .before .before .before .before .before .args .bytes)) ≡ accepted
@@ -28,10 +27,12 @@ low : (c : tie.After-third-at) → c .third-at .result ≤ 3210
 low c = omega (arith, c .third-at .ensures, third-low (now (c .before .before .before .before .before .before .before .args .bytes)) (passed (c .before .before)))
 
 returns : tie.Need-returns
-unfolding readVerdict solveVerdict
 returns c =
-    let e = sym (c .before .before .before .before .fields-refusal .ensures) ∙ c .before .before .number .given .1 in
-    (rw e (search needs), (rw e (search needs), (rw e (search needs), rw e (search needs))))
+    let refusal = c .before .before .number .given in
+    let a = c .before .before .before .before .before .before .before .args in
+    let e = solve-refused (now (a .bytes)) (refusal .0 .0) (refusal .0 .1 .0) (sym (c .before .before .before .before .fields-refusal .ensures) ∙ refusal .1)
+    (length (now (a .words))) (length (now (a .values))) (length (now (a .deviations))) _ (now (a .words)) (now (a .values)) (now (a .deviations)) (c .unsolved .ensures) in
+    (search needs, (search needs, (search needs, search needs)))
 
 part-analyse-end : tie.Need-part-analyse-end
 part-analyse-end c = omega (arith, filed _ (passed (c .before .before .before .before .before .before .before .before)) .ends)
@@ -41,7 +42,7 @@ part-analyse-end-2 c = omega (arith, readings-most _ (passed (c .before .before 
 
 -- what the direct call was handed
 module _ (c : tie.After-analyse) where
-  abbrev found : tie.After-signed-64
+  abbrev found : tie.After-sum-of
   found = c .before .before .before .before .before .before .before .before .before .before
 
   abbrev bytes : List ℕ
@@ -64,24 +65,11 @@ module _ (c : tie.After-analyse) where
       readings-part bytes _ _ _ _ third (found .before .before .block-count .ensures)
       (omega (arith, readings-most bytes there, found .before .before .block-count .ensures)) (c .before .before .before .before .before .before .before .before .readings .ensures)
 
-  set : found .before .eight-bytes .result ≡ setOf bytes
-  set = set-part bytes _ _ third (found .before .eight-bytes .ensures)
-
-  sum : toZ w64 (ofZ w64 (found .signed-64 .result)) ≡ sumOf bytes
-  sum = read-back _ (found .signed-64 .ok) ∙ sum-part bytes _ _ third (found .signed-64 .ensures)
-
-moved-requires : tie.Need-moved-requires
-moved-requires c κs =
-    let d = c .before .before .before .before in
-    (third-low (bytes d) (there d), rw (d .analyse .ensures .0) (solve-place (bytes d) (there d) _ _ _ _ _ (head d) (listed d) (readings d) (set d) (sum d) _ _ _))
-
 returns-2 : tie.Need-returns-2
 returns-2 c =
-    let d = c .before .before .before .before .before .before .before in
-    let solved = solved-direct (bytes d) (there d) _ _ _ _ _ (head d) (listed d) (readings d) (set d) (sum d) _ _ _ _ _ (d .analyse .ensures .0) (c .before .before .moved .ensures) in
-    let words = words-direct (bytes d) (there d) _ _ _ _ _ (head d) (listed d) (readings d) (set d) (sum d) _ _ _ _ _ (d .analyse .ensures .1 .0) in
-    let values = values-direct (bytes d) (there d) _ _ _ _ _ (head d) (listed d) (readings d) (set d) (sum d) _ _ _ _ _ (d .analyse .ensures .1 .1 .0) in
-    let deviations = deviations-direct (bytes d) (there d) _ _ _ _ _ (head d) (listed d) (readings d) (set d) (sum d) _ _ _ _ _ (d .analyse .ensures .1 .1 .1) in
+    let d = c .before .before .before .before .before in
+    let e = solve-direct (bytes d) (there d) _ _ _ _ _ (head d) (listed d) (readings d) (found d .before .set-of .ensures) (read-back _ (found d .sum-of .ok) ∙ found d .sum-of .ensures)
+    _ _ _ _ _ _ _ _ _ _ _ (c .in-file .ensures) (d .analyse .ensures) in
     (search needs, (search needs, (search needs, search needs)))
 
 pub solve-spec : {M : Type 1} → statement M
@@ -96,9 +84,7 @@ solve-spec =
     (λ c κs. search needs)
     (λ c κs. search needs)
     (λ c κs. search needs)
-    (λ c. omega (arith, low (c .before)))
     (λ c κs. search needs)
-    (λ c. omega (arith, low (c .before .before)))
     (λ c κs. search needs)
     (λ c. omega (arith, low (c .before .before .before)))
     (λ c. search needs)
@@ -110,7 +96,7 @@ solve-spec =
     (λ c. search needs)
     part-analyse-end-2
     (λ c κs. search needs)
-    moved-requires
+    (λ c κs. search needs)
     (λ c. search needs)
     (λ c. search needs)
     (λ c. search needs)

@@ -1,13 +1,16 @@
 -- Places: of a direct call's refusal how large they are, and what moving them to the file leaves as it is. Assumes nothing.
-use Prim.Native.Nat.{ℕ, _+_, _*_, _^_, _≤_}
-use mathlib.Core.Path.{_≡_, refl, ap, subst}
-use mathlib.Core.Bool.{Bool, true, false, _&&_}
+use Prim.Native.Nat.{ℕ, _+_, _*_, _^_, _≤_, _<_}
+use mathlib.Core.Path.{_≡_, refl}
+use mathlib.Core.Bool.{Bool, true, false, cond, _&&_}
 use mathlib.Core.List.{List}
+use native.Mathlib.Nat.{mul-le-mul}
 use native.Mathlib.Omega.{arith}
-use borrow.Author.Tests.{eq-eqb, ne-eqb}
+use borrow.Author.Tests.{eq-eqb, ne-eqb, le-leb, lt-leb}
 use lib.Dec.{eqb, leb, ltb}
 use lib.IntN.{ℤ, natAbs}
-use lib.ListN.{length}
+use lib.ListN.{length, getD}
+use mir.Syntax.{w8}
+use mir.Val.{Fits}
 use Rattle.algebra.proofs.Tests.{first-bounds}
 use Rattle.meaning.specs.declared.Head.{Head}
 use Rattle.meaning.specs.declared.Verdict.{Verdict}
@@ -15,8 +18,9 @@ use Rattle.meaning.specs.declared.Verdict.the-variants.{Accepted, Refused}
 use Rattle.meaning.specs.Design.{objects, blocks, sized, listLength, balanced}
 use Rattle.meaning.specs.Analysis.{reading}
 use Rattle.meaning.specs.Refusals.{accepted, refused, readingLimit, sumLimit, place, test, _⨾_, offends, offender, farReading}
-use Rattle.meaning.specs.Calls.{given, slices, contents, jobVerdict, rooms, analyseVerdict, solvedUnder}
+use Rattle.meaning.specs.Calls.{given, slices, contents, jobVerdict, rooms, analyseVerdict}
 use Rattle.meaning.specs.File.{headOf, thirdAt, readingsAt, blocksOf, readingsOf, fields, placed}
+use Rattle.places.specs.Moved.{placeLimit, movedIn}
 use Rattle.laws.proofs.Chains.{fits, listed-most}
 use Rattle.laws.proofs.Files.{numbers-long, filed, blocks-long}
 use Rattle.fields.proofs.Order.{third-most}
@@ -82,37 +86,50 @@ file-most s e =
     let h = fits (headOf s) (f .size) in
     omega (arith, blocks-long s f, numbers-long s (readingsAt s) (blocks (headOf s)), listed-most (headOf s) h, h .blocks-most)
 
--- a refusal's place is as large as its verdict says
-pub refused-place : (verdict : Verdict) (k i most : ℕ) → verdict ≡ refused k i → place verdict ≤ most → i ≤ most
-refused-place verdict k i most e p = subst (λ (v : Verdict). place v ≤ most) e p
-
 -- ---- moving
 
+-- a verdict of a direct call on a job is moved
+pub moved-is : (s : List ℕ) (verdict : Verdict) → place verdict ≤ placeLimit → movedIn s verdict ≡ placed s verdict
+moved-is s verdict most = rw (le-leb _ _ most)
+
+-- moving leaves the number as it is
+pub moved-place : (s : List ℕ) (k i : ℕ) → refused k (place (movedIn s (refused k i))) ≡ movedIn s (refused k i)
+moved-place s k i = go (leb i placeLimit)
+  where
+    go : (b : Bool) → refused k (place (cond b (placed s (refused k i)) (refused k i))) ≡ cond b (placed s (refused k i)) (refused k i)
+    go true = refl
+    go false = refl
+
+-- a size is a byte, so the third field of any file starts within these bytes
+pub third-bound : (s : List ℕ) → Fits w8 (getD s 5 0) → Fits w8 (getD s 6 0) → thirdAt s ≤ 130060
+third-bound s p m =
+    let side : 2 * getD s 5 0 ≤ 510 = omega (arith, p) in
+    let lists : getD s 6 0 ≤ 255 = omega (arith, m) in
+    omega (arith, mul-le-mul side lists)
+
 module _ (s : List ℕ) (k i : ℕ) where
-  -- 5 is moved to the byte of the blocks
-  pub placed-byte : k ≡ 5 → placed s (refused k i) ≡ refused k (10 + i)
-  placed-byte e = rw (eq-eqb k 5 e)
+  -- a place that no job has stays
+  pub place-far : placeLimit < i → i ≡ place (movedIn s (refused k i))
+  place-far far = rw (lt-leb _ _ far)
 
-  -- 7 to the start of the third field
-  pub placed-restraint : k ≡ 7 → placed s (refused k i) ≡ refused k (thirdAt s)
-  placed-restraint e = rw e
+  module _ (near : i ≤ placeLimit) where
+    -- 5 is moved to the byte of the blocks
+    pub place-byte : k ≡ 5 → 10 + i ≡ place (movedIn s (refused k i))
+    place-byte e = rw (moved-is s (refused k i) near, eq-eqb k 5 e)
 
-  -- 8 to the first byte of the reading
-  pub placed-reading : k ≡ 8 → placed s (refused k i) ≡ refused k (thirdAt s + 22 + 4 * i)
-  placed-reading e = rw e (ap (λ (at : ℕ). refused 8 at) (omega arith))
+    -- 7 to the start of the third field
+    pub place-restraint : k ≡ 7 → thirdAt s ≡ place (movedIn s (refused k i))
+    place-restraint e = rw (moved-is s (refused k i) near, e)
 
-  -- any other stays
-  pub placed-else : (k ≡ 5 → ⊥) → (k ≡ 7 → ⊥) → (k ≡ 8 → ⊥) → placed s (refused k i) ≡ refused k i
-  placed-else a b c = rw (ne-eqb k 5 a, ne-eqb k 7 b, ne-eqb k 8 c)
+    -- 8 to the first byte of the reading
+    pub place-reading : k ≡ 8 → thirdAt s + 22 + 4 * i ≡ place (movedIn s (refused k i))
+    place-reading e = rw (moved-is s (refused k i) near, e) (omega arith)
+
+    -- any other stays
+    pub place-else : (k ≡ 5 → ⊥) → (k ≡ 7 → ⊥) → (k ≡ 8 → ⊥) → i ≡ place (movedIn s (refused k i))
+    place-else a b c = rw (moved-is s (refused k i) near, ne-eqb k 5 a, ne-eqb k 7 b, ne-eqb k 8 c)
 
 -- what is given under a verdict is given under the moved one
 pub given-placed : {A : Type 0} (s : List ℕ) (verdict : Verdict) (answer nothing : A) → given (placed s verdict) answer nothing ≡ given verdict answer nothing
 given-placed s Accepted answer nothing = refl
 given-placed s (Refused k at) answer nothing = refl
-
--- the record of a job worked out, with its verdict moved
-pub solved-placed : (s : List ℕ) (verdict : Verdict) (h : Head) (d : List ℕ) (y : List ℤ) (w : ℕ)
-    → record { verdict = placed s verdict; parameters = solvedUnder verdict h d y w .parameters; denominator = solvedUnder verdict h d y w .denominator; spreading = solvedUnder verdict h d y w .spreading }
-    ≡ solvedUnder (placed s verdict) h d y w
-solved-placed s Accepted h d y w = refl
-solved-placed s (Refused k at) h d y w = refl

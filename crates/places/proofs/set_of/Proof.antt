@@ -1,0 +1,23 @@
+-- `places::set_of` meets its contract: the set stands three bytes after the third field's start, and no place wraps.
+-- Assumes nothing.
+use native.Mathlib.Omega.{arith}
+use borrow.Author.Needs.{needs}
+use denote.Ref.{now}
+use Rattle.places.proofs.Places.{third-bound}
+use Rattle.places.proofs.set_of.Statement.{statement}
+use Rattle.places.proofs.set_of.Tie as tie
+
+add-eight-bytes : tie.Need-add-eight-bytes
+add-eight-bytes c = omega (arith, c .third-at .ensures, third-bound (now (c .before .before .args .bytes)) (c .before .shared-slice-known .given 5) (c .before .shared-slice-known .given 6))
+
+returns : tie.Need-returns
+returns c = rw (c .eight-bytes .ensures, c .before .third-at .ensures) (search needs)
+
+pub set-of-spec : {M : Type 1} → statement M
+set-of-spec =
+    tie.close
+    (tie.spec
+    (λ c κs. search needs)
+    add-eight-bytes
+    (λ c κs. search needs)
+    returns)

@@ -1,0 +1,2 @@
+-- What this crate promises beyond the definitions of the bench.
+pub mod Moved

@@ -1,0 +1,53 @@
+// Places in a job file: its restraint, read from where it stands, and a direct call's refusal moved to its own place. Each for any bytes.
+use fields::third_at;
+use meaning::Verdict;
+use numbers::eight_bytes;
+use signed::signed_64;
+ghost use mathlib.Core.Path.{_≡_};
+ghost use Rattle.meaning.specs.Refusals.{refused, place};
+ghost use Rattle.meaning.specs.File.{setOf, sumOf};
+ghost use Rattle.places.specs.Moved.{movedIn};
+
+// The restraint set.
+pub fn set_of(bytes: &[u8]) -> u64
+    ensures { λ r. ⌜ r ≡ setOf (now (bytes .entry)) ⌝ }
+{
+    eight_bytes(bytes, third_at(bytes) + 3)
+}
+
+// Its accepted sum.
+pub fn sum_of(bytes: &[u8]) -> i64
+    ensures { λ r. ⌜ r ≡ sumOf (now (bytes .entry)) ⌝ }
+{
+    signed_64(bytes, third_at(bytes) + 11)
+}
+
+// A direct call's verdict moved to its place in the file.
+pub fn moved(bytes: &[u8], verdict: Verdict) -> Verdict
+    ensures { λ r. ⌜ r ≡ movedIn (now (bytes .entry)) verdict ⌝ }
+{
+    match verdict {
+        Verdict::Accepted => Verdict::Accepted,
+        Verdict::Refused(number, i) => Verdict::Refused(number, file_place(bytes, number, i)),
+    }
+}
+
+// The place: a byte of the blocks, the start of the third field, the first byte of a reading. Any other number has no place of its own in the file.
+fn file_place(bytes: &[u8], number: u8, i: usize) -> usize
+    ensures { λ r. ⌜ r ≡ place (movedIn (now (bytes .entry)) (refused number i)) ⌝ }
+{
+    let third = third_at(bytes);
+    if 4500 < i {
+        return i;
+    }
+    if number == 5 {
+        return 10 + i;
+    }
+    if number == 7 {
+        return third;
+    }
+    if number == 8 {
+        return third + 22 + 4 * i;
+    }
+    i
+}

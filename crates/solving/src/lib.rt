@@ -1,0 +1,97 @@
+// A job file worked out into lent room: refused in the request's order, or all that follows from what it holds.
+use analysis::analyse;
+use fields::block_count;
+use fields::fields_refusal;
+use fields::head_of;
+use fields::third_at;
+use meaning::Parameters;
+use meaning::Solved;
+use meaning::Spread;
+use meaning::Spreading;
+use meaning::Verdict;
+use places::moved;
+use places::set_of;
+use places::sum_of;
+use signed::readings;
+ghost use mathlib.Core.Path.{_≡_};
+ghost use mathlib.Core.List.{[]};
+ghost use lib.ListN.{length};
+ghost use Rattle.meaning.specs.Refusals.{refused};
+ghost use Rattle.meaning.specs.Calls.{solvedUnder, wordsUnder, valuesUnder, deviationsUnder};
+ghost use Rattle.meaning.specs.File.{headOf, blocksOf, setOf, sumOf, readingsOf, noHead, solveVerdict};
+ghost use Rattle.solving.specs.Moved.{solvedIn};
+
+// Works a job file out into lent room: words, numerators of the values, numerators of the deviations. A refusal writes nowhere.
+pub fn solve(bytes: &[u8], words: &mut [u64], values: &mut [i64], deviations: &mut [i64]) -> Solved
+    ensures { λ r. ⌜ r ≡ solvedUnder (solveVerdict (now (bytes .entry)) (length (now (words .entry))) (length (now (values .entry))) (length (now (deviations .entry))))
+        (headOf (now (bytes .entry))) (blocksOf (now (bytes .entry))) (readingsOf (now (bytes .entry))) (setOf (now (bytes .entry))) ⌝ }
+    ensures { λ _. ⌜ now (words .exit) ≡ wordsUnder (solveVerdict (now (bytes .entry)) (length (now (words .entry))) (length (now (values .entry))) (length (now (deviations .entry))))
+        (headOf (now (bytes .entry))) (blocksOf (now (bytes .entry))) (now (words .entry)) ⌝ }
+    ensures { λ _. ⌜ now (values .exit) ≡ valuesUnder (solveVerdict (now (bytes .entry)) (length (now (words .entry))) (length (now (values .entry))) (length (now (deviations .entry))))
+        (headOf (now (bytes .entry))) (blocksOf (now (bytes .entry))) (readingsOf (now (bytes .entry))) (setOf (now (bytes .entry))) (sumOf (now (bytes .entry))) (now (values .entry)) ⌝ }
+    ensures { λ _. ⌜ now (deviations .exit) ≡ deviationsUnder (solveVerdict (now (bytes .entry)) (length (now (words .entry))) (length (now (values .entry))) (length (now (deviations .entry))))
+        (headOf (now (bytes .entry))) (blocksOf (now (bytes .entry))) (readingsOf (now (bytes .entry))) (now (deviations .entry)) ⌝ }
+{
+    if let Verdict::Refused(number, place) = fields_refusal(bytes) {
+        return unsolved(number, place);
+    }
+    let head = head_of(bytes);
+    let third = third_at(bytes);
+    let b = block_count(bytes);
+    let set = set_of(bytes);
+    let sum = sum_of(bytes);
+    let mut decoded = [0i32; 1300];
+    readings(bytes, third + 22, b, &mut decoded);
+    let solved = analyse(
+        head,
+        &bytes[10..third],
+        &decoded[0..b],
+        set,
+        sum,
+        words,
+        values,
+        deviations,
+    );
+    in_file(bytes, solved)
+}
+
+// A job worked out, its verdict moved to its place in the file.
+fn in_file(bytes: &[u8], solved: Solved) -> Solved
+    ensures { λ r. ⌜ r ≡ solvedIn (now (bytes .entry)) solved ⌝ }
+{
+    let direct = solved.verdict;
+    let verdict = moved(bytes, direct);
+    let parameters = solved.parameters;
+    let spreading = solved.spreading;
+    Solved {
+        verdict,
+        parameters,
+        denominator: solved.denominator,
+        spreading,
+    }
+}
+
+// What a refused job hands back.
+fn unsolved(number: u8, place: usize) -> Solved
+    ensures { λ r. ⌜ r ≡ solvedUnder (refused number place) noHead [] [] 0 ⌝ }
+{
+    Solved {
+        verdict: Verdict::Refused(number, place),
+        parameters: Parameters {
+            v: 0,
+            b: 0,
+            r: 0,
+            p: 0,
+            l1: 0,
+            l2: 0,
+        },
+        denominator: 0,
+        spreading: Spreading {
+            q: 0,
+            vbeta: 0,
+            freedom: 0,
+            hundredths: 0,
+            spread: Spread::None,
+        },
+    }
+}

@@ -5,13 +5,12 @@ use mathlib.Core.List.{List}
 use Prim.Native.Nat.{ℕ, _+_, _-_, _*_, _^_, _≤_, _<_}
 use native.Mathlib.Nat.{mul-le-mul}
 use native.Mathlib.Omega.{arith}
-use borrow.Author.Tests.{le-leb, leb-true}
+use borrow.Author.Tests.{le-leb}
 use lib.Dec.{leb}
-use lib.ListN.{getD, length}
 use lib.IntN.{ℤ, pos, natAbs, _-ℤ_, _*ℤ_}
 use Rattle.algebra.specs.Ranges.{sum}
 use Rattle.algebra.specs.Buffers.{over}
-use Rattle.algebra.proofs.Filling.{getD-over, over-ext}
+use Rattle.algebra.proofs.Filling.{over-ext}
 use Rattle.algebra.proofs.Solver.{_⊕_, _⊗_, _⊝_, #, _≐_, ring₃}
 use Rattle.algebra.proofs.Order.{pos-inj, comb₁}
 use Rattle.algebra.proofs.Bounds.{sum-squares}
@@ -23,9 +22,9 @@ use Rattle.meaning.specs.Design.{objects, blocks, balanced, parametersOf}
 use Rattle.meaning.specs.Analysis.{reading, total, members, numerator, denominator, vbeta, numeratorOf, denominatorOf, deviationOf, squaredReadings, squaredTotals, qOf, freedom, spreadHundredthsOf}
 use Rattle.meaning.specs.Publishing.{spreadOf}
 use Rattle.meaning.specs.Refusals.{_⨾_, accepted, refused, sizes, clean, inBalance, restraint, inReach, room}
-use Rattle.meaning.specs.Calls.{slices, contents, wordAt, jobVerdict, spreadingOf, rooms, analyseVerdict, solvedUnder}
+use Rattle.meaning.specs.Calls.{slices, contents, jobVerdict, spreadingOf, rooms, solvedUnder}
 use Rattle.laws.specs.Fits.{Fits}
-use Rattle.laws.proofs.Chains.{Sound, Readings, Job, opened, held, accepts, goes-on, test-yes, accepted-last, job}
+use Rattle.laws.proofs.Chains.{Sound, Readings, Job, opened, accepts, goes-on, test-yes, accepted-last, job}
 use Rattle.laws.proofs.Counting.{Numbers, parameters}
 use Rattle.laws.proofs.Matrix.{difference-signs}
 use Rattle.laws.proofs.Analysis.{vbeta-some, q-nonneg}
@@ -51,23 +50,6 @@ job-tests h d y w M e =
     let f = opened (clean h d) (inBalance h d) (c .0) in
     (a .0, f .0, b .1)
 
--- ---- rooms
-
-module _ (h : Head) (words values deviations : ℕ) where
-  -- accepted rooms are long enough
-  pub enough : rooms h words values deviations ≡ accepted → (2 * blocks h ≤ words) × (objects h ≤ values) × (blocks h ≤ deviations)
-  unfolding rooms
-  enough e =
-      let a = opened _ _ e in
-      let b = opened _ _ (a .0) in
-      (leb-true _ _ (held _ _ _ (b .0)), leb-true _ _ (held _ _ _ (b .1)), leb-true _ _ (held _ _ _ (a .1)))
-
--- an accepted analysis is of an accepted job, in rooms that are long enough
-pub analysed : (h : Head) (d : List ℕ) (y : List ℤ) (w : ℕ) (M : ℤ) (words values deviations : ℕ) → analyseVerdict h d y w M words values deviations ≡ accepted →
-    (jobVerdict h d y w M ≡ accepted) × ((2 * blocks h ≤ words) × (objects h ≤ values) × (blocks h ≤ deviations))
-unfolding analyseVerdict
-analysed h d y w M words values deviations e = let (a, b) = opened _ _ e in (a, enough h words values deviations b)
-
 -- ---- from the words
 
 module _ (h : Head) (d : List ℕ) (y : List ℤ) (words : List ℕ) (s : Sound h d) (a : Laid h d words) where
@@ -88,11 +70,6 @@ module _ (h : Head) (d : List ℕ) (y : List ℤ) (words : List ℕ) (s : Sound 
       ap (λ (F : ℤ). pos (vbeta h d) *ℤ reading y k -ℤ F)
       (fitted-signs words k (objects h) few (a .within .below (2 * k) (omega arith)) (a .within .below (2 * k + 1) (omega arith)) _
       ∙ sum-cong (objects h) _ _ (λ i n. ap₂ _*ℤ_ (a .signs k i m) (a .totals y i)) ∙ sym (difference-signs h d s (total h d y) k m))
-
--- words that were copied from a development are one
-pub copied : (h : Head) (d : List ℕ) (zeros developed before words : List ℕ) → 2 * blocks h ≤ length zeros → developed ≡ over (2 * blocks h) (wordAt h d) zeros →
-    words ≡ over (2 * blocks h) (λ c. getD developed c 0) before → words ≡ over (2 * blocks h) (wordAt h d) before
-copied h d zeros developed before words m e f = f ∙ over-ext (2 * blocks h) _ _ before (λ c l. ap (λ (x : List ℕ). getD x c 0) e ∙ getD-over (2 * blocks h) (wordAt h d) zeros 0 c l m)
 
 -- ---- records
 

@@ -1,11 +1,11 @@
 // A whole job worked out at once: totals, then values, deviations and spread.
+use judging::judged_with_words;
 use meaning::Head;
 use meaning::Parameters;
 use meaning::Solved;
 use meaning::Spread;
 use meaning::Spreading;
 use meaning::Verdict;
-use refusals::judged_with_rooms;
 use spread::spread_from;
 use weighing::weigh;
 use words::lowest;
@@ -17,7 +17,6 @@ ghost use lib.IntN.{natAbs};
 ghost use lib.ListN.{getD, length};
 ghost use Rattle.algebra.specs.Buffers.{over};
 ghost use Rattle.spread.specs.Hundredths.{spreadingFrom};
-ghost use Rattle.laws.specs.Fits.{Fits};
 ghost use Rattle.weighing.specs.Developed.{totalIn, Weighed};
 ghost use Rattle.meaning.specs.Design.{objects, blocks};
 ghost use Rattle.meaning.specs.Analysis.{members, freedom};
@@ -40,23 +39,20 @@ pub fn analyse(
     ensures { λ r. ⌜ now (values .exit) ≡ valuesUnder (analyseVerdict head (now (blocks .entry)) (now (readings .entry)) set sum (length (now (words .entry))) (length (now (values .entry))) (length (now (deviations .entry)))) head (now (blocks .entry)) (now (readings .entry)) set sum (now (values .entry)) ⌝ }
     ensures { λ r. ⌜ now (deviations .exit) ≡ deviationsUnder (analyseVerdict head (now (blocks .entry)) (now (readings .entry)) set sum (length (now (words .entry))) (length (now (values .entry))) (length (now (deviations .entry)))) head (now (blocks .entry)) (now (readings .entry)) (now (deviations .entry)) ⌝ }
 {
-    let mut developed = [0u64; 2600];
-    let judged = judged_with_rooms(
+    let judged = judged_with_words(
         head,
         blocks,
         readings,
         set,
         sum,
-        words.len(),
+        words,
         values.len(),
         deviations.len(),
-        &mut developed,
     );
     let verdict = judged.verdict;
     if let Verdict::Refused(_, _) = verdict {
         return no_solution(verdict);
     }
-    copy_words(head, &developed, words);
     work(
         head,
         readings,
@@ -93,19 +89,6 @@ fn no_solution(verdict: Verdict) -> Solved
         parameters,
         denominator: 0,
         spreading,
-    }
-}
-
-// Copies the two words of every block.
-fn copy_words(head: Head, developed: &[u64; 2600], words: &mut [u64])
-    requires { ⌜ (Fits head) × (2 * blocks head ≤ length (now words)) ⌝ }
-    ensures { λ r. ⌜ now (words .exit) ≡ over (2 * blocks head) (λ c. getD (now (developed .entry)) c 0) (now (words .entry)) ⌝ }
-{
-    let count = 2 * (head.m * head.n);
-    let mut c = 0;
-    while c < count {
-        words[c] = developed[c];
-        c += 1;
     }
 }
 

@@ -1,25 +1,23 @@
 -- `analyse`: each way out is its verdict, by the tests that led there; what was worked out stands under it. Assumes nothing.
 use borrow.Author.Needs.{needs}
 use mathlib.Core.Path.{_≡_, sym, ap, _∙_}
-use mathlib.Core.List.{List, replicate}
+use mathlib.Core.List.{List}
 use Prim.Native.Nat.{ℕ, _*_, _≤_}
-use native.Mathlib.Omega.{arith}
 use denote.Ref.{now}
 use lib.IntN.{ℤ}
 use lib.ListN.{length}
-use Rattle.algebra.specs.Buffers.{over}
 use mir.Facts.{toZ-ofZ}
 use Rattle.meaning.specs.declared.Head.{Head}
 use Rattle.meaning.specs.declared.Verdict.{Verdict}
 use Rattle.meaning.specs.declared.Judged.{Judged}
 use Rattle.meaning.specs.Design.{objects, blocks, parametersOf}
 use Rattle.meaning.specs.Refusals.{accepted}
-use Rattle.meaning.specs.Calls.{wordAt, noParameters, jobVerdict, analyseVerdict}
-use Rattle.laws.proofs.Chains.{Sound, given-yes, given-no, job}
+use Rattle.meaning.specs.Calls.{wordsUnder, noParameters, jobVerdict, analyseVerdict}
+use Rattle.laws.proofs.Chains.{given-yes, given-no, job}
 use Rattle.weighing.proofs.Developing.{laid}
-use Rattle.refusals.proofs.Jobs.{job-developed}
 use Rattle.refusals.specs.Judgement.{judgedUnder}
-use Rattle.analysis.proofs.Accepting.{copied, analysed, Developed, workable, record-is, values-are, deviations-are, no-solution-is}
+use Rattle.judging.proofs.Rooms.{analysed}
+use Rattle.analysis.proofs.Accepting.{Developed, workable, record-is, values-are, deviations-are, no-solution-is}
 use Rattle.analysis.proofs.analyse.Statement.{statement}
 use Rattle.analysis.proofs.analyse.Tie as tie
 
@@ -38,86 +36,73 @@ module _ (s : tie.Start) where
   verdict = analyseVerdict head bytes ys (s .args .set) (s .args .sum) (length (now (s .args .words))) (length (now (s .args .values))) (length (now (s .args .deviations)))
 
 -- what the judgement says
-module _ (c : tie.After-judged-with-rooms) where
+module _ (c : tie.After-judged-with-words) where
   abbrev start : tie.Start
   start = c .before .before .before .before
 
-  judgement : c .judged-with-rooms .result ≡ judgedUnder (verdict start) (head start) (bytes start)
-  judgement = rw (toZ-ofZ (start .fits .sum)) at (c .judged-with-rooms .ensures .0)
+  judgement : c .judged-with-words .result ≡ judgedUnder (verdict start) (head start) (bytes start)
+  judgement = rw (toZ-ofZ (start .fits .sum)) at (c .judged-with-words .ensures .0)
 
-  judged-verdict : c .judged-with-rooms .result .verdict ≡ verdict start
+  words-under : c .judged-with-words .last .1 .1 .1 .1 .1 .0 ≡ wordsUnder (verdict start) (head start) (bytes start) (now (start .args .words))
+  words-under = rw (toZ-ofZ (start .fits .sum)) at (c .judged-with-words .ensures .1)
+
+  judged-verdict : c .judged-with-words .result .verdict ≡ verdict start
   judged-verdict = ap (λ (r : Judged). r .verdict) judgement
 
 -- past the tests
-passed : (c : tie.After-enum-told2) → verdict (start (c .before .before)) ≡ accepted
-passed c = sym (judged-verdict (c .before .before)) ∙ c .enum-told2 .given .1
+passed : (c : tie.After-enum-told2) → verdict (start (c .before .before .before .before)) ≡ accepted
+passed c = sym (judged-verdict (c .before .before .before .before)) ∙ c .enum-told2 .given .1
 
 -- where it refuses all stays as it was
 returns : tie.Need-returns
 returns c =
     let t = c .before in
-    let j = t .before .before in
+    let j = t .before .before .before .before in
     let s = start j in
     let e = sym (judged-verdict j) ∙ t .enum-told .given .1 in (
       c .no-solution .ensures ∙ no-solution-is _ (verdict s) (head s) (bytes s) (ys s) (s .args .set) _ _ (judged-verdict j) e,
-      (sym (given-no (verdict s) _ _ _ _ e), (sym (given-no (verdict s) _ _ _ _ e), sym (given-no (verdict s) _ _ _ _ e))),
+      (words-under j, (sym (given-no (verdict s) _ _ _ _ e), sym (given-no (verdict s) _ _ _ _ e))),
     )
 
--- once the words are copied
-module _ (c : tie.After-copy-words) where
-  abbrev told : tie.After-enum-told2
-  told = c .before .before .before
-
-  abbrev judged : tie.After-judged-with-rooms
-  judged = told .before .before
+-- past them
+module _ (c : tie.After-enum-told2) where
+  abbrev judged : tie.After-judged-with-words
+  judged = c .before .before .before .before
 
   abbrev s : tie.Start
   s = start judged
 
   abbrev words : List ℕ
-  words = c .copy-words .last .1 .1 .0
+  words = judged .judged-with-words .last .1 .1 .1 .1 .1 .0
 
   stands : (jobVerdict (head s) (bytes s) (ys s) (s .args .set) (s .args .sum) ≡ accepted)
       × ((2 * blocks (head s) ≤ length (now (s .args .words))) × (objects (head s) ≤ length (now (s .args .values))) × (blocks (head s) ≤ length (now (s .args .deviations))))
-  stands = analysed (head s) (bytes s) (ys s) (s .args .set) (s .args .sum) _ _ _ (passed told)
+  stands = analysed (head s) (bytes s) (ys s) (s .args .set) (s .args .sum) _ _ _ (passed c)
 
-  design : Sound (head s) (bytes s)
-  design = job _ _ _ _ _ (stands .0) .measures .design
-
-  words-are : words ≡ over (2 * blocks (head s)) (wordAt (head s) (bytes s)) (now (s .args .words))
-  words-are = copied (head s) (bytes s) (replicate 2600 0) _ _ words (omega (arith, design .sizes .blocks-most)) (job-developed _ _ _ _ _ _ (stands .0) (judged .judged-with-rooms .ensures .1)) (c .copy-words .ensures)
-
-  developed : Developed (head s) (bytes s) (ys s) (s .args .set) (s .args .sum) (judged .judged-with-rooms .result .parameters) words
+  developed : Developed (head s) (bytes s) (ys s) (s .args .set) (s .args .sum) (judged .judged-with-words .result .parameters) words
   developed = record {
     stands = stands .0;
-    parameters-are = ap (λ (r : Judged). r .parameters) (judgement judged) ∙ given-yes (verdict s) (parametersOf (head s) (bytes s)) noParameters (passed told);
-    lay = laid (head s) (bytes s) _ words design (stands .1 .0) words-are;
+    parameters-are = ap (λ (r : Judged). r .parameters) (judgement judged) ∙ given-yes (verdict s) (parametersOf (head s) (bytes s)) noParameters (passed c);
+    lay = laid (head s) (bytes s) _ words (job _ _ _ _ _ (stands .0) .measures .design) (stands .1 .0) (words-under judged ∙ given-yes (verdict s) _ _ (passed c));
   }
-
-copy-words-requires : tie.Need-copy-words-requires
-copy-words-requires c κs =
-    let p = c .before .before in
-    let a = start (p .before .before) .args in
-    let t = analysed (a .head) (now (a .blocks)) (now (a .readings)) (a .set) (a .sum) _ _ _ (passed p) in
-    (job _ _ _ _ _ (t .0) .measures .design .sizes, t .1 .0)
 
 work-requires : tie.Need-work-requires
 work-requires c κs =
-    let a = c .before .before .before .before .before in
-    (rw (toZ-ofZ (s a .fits .sum)) (workable (developed a)), (stands a .1 .1, stands a .1 .2))
+    let t = c .before .before .before in
+    (rw (toZ-ofZ (s t .fits .sum)) (workable (developed t)), (stands t .1 .1, stands t .1 .2))
 
 returns-2 : tie.Need-returns-2
 returns-2 c =
-    let a = c .before .before .before .before .before .before .before .before in
-    let d = developed a in
-    let e = passed (told a) in
+    let t = c .before .before .before .before .before .before in
+    let d = developed t in
+    let e = passed t in
     let w = c .before .before .work .ensures in (
-      w .0 ∙ record-is d (verdict (s a)) e,
+      w .0 ∙ record-is d (verdict (s t)) e,
       (
-        words-are a ∙ sym (given-yes (verdict (s a)) _ _ e),
+        words-under (judged t),
         (
-          rw (toZ-ofZ (s a .fits .sum)) at (w .1 .0) ∙ values-are d _ ∙ sym (given-yes (verdict (s a)) _ _ e),
-          w .1 .1 ∙ deviations-are d _ ∙ sym (given-yes (verdict (s a)) _ _ e),
+          rw (toZ-ofZ (s t .fits .sum)) at (w .1 .0) ∙ values-are d _ ∙ sym (given-yes (verdict (s t)) _ _ e),
+          w .1 .1 ∙ deviations-are d _ ∙ sym (given-yes (verdict (s t)) _ _ e),
         ),
       ),
     )
@@ -126,12 +111,12 @@ pub analyse-spec : {M : Type 1} → statement M
 analyse-spec =
     tie.close
     (tie.spec
-    (λ c κs. search needs)
+    (λ c κs. tt)
     (λ c. search needs)
-    (λ c κs. search needs)
+    (λ c κs. tt)
+    (λ c. search needs)
     returns
     (λ c. search needs)
-    copy-words-requires
     work-requires
     (λ c. search needs)
     (λ c. search needs)

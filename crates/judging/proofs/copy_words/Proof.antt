@@ -6,8 +6,8 @@ use denote.Ref.{now}
 use lib.ListN.{getD, length, length-set}
 use Rattle.algebra.specs.Buffers.{over}
 use Rattle.algebra.proofs.Filling.{over-none, over-step, over-end}
-use Rattle.analysis.proofs.copy_words.Statement.{statement}
-use Rattle.analysis.proofs.copy_words.Tie as tie
+use Rattle.judging.proofs.copy_words.Statement.{statement}
+use Rattle.judging.proofs.copy_words.Tie as tie
 
 abbrev Inv-loop : tie.InvT-loop
 Inv-loop developed words₀ count c₀ words c = (c ≤ count) × (words ≡ over c (λ i. getD developed i 0) words₀) × (length words ≡ length words₀)

@@ -15,9 +15,9 @@ use Rattle.algebra.proofs.Solver.{_⊕_, _⊗_, _⊝_, #, _≐_, ring₃}
 use Rattle.algebra.proofs.Order.{pos-inj, comb₁}
 use Rattle.algebra.proofs.Bounds.{sum-squares}
 use Rattle.algebra.proofs.Sums.{sum-cong}
-use Rattle.meaning.specs.declared.Head.{Head}
-use Rattle.meaning.specs.declared.Verdict.{Verdict}
-use Rattle.meaning.specs.declared.Parameters.{Parameters}
+use Rattle.records.specs.declared.Head.{Head}
+use Rattle.records.specs.declared.Verdict.{Verdict}
+use Rattle.records.specs.declared.Parameters.{Parameters}
 use Rattle.meaning.specs.Design.{objects, blocks, balanced, parametersOf}
 use Rattle.meaning.specs.Analysis.{reading, total, members, numerator, denominator, vbeta, numeratorOf, denominatorOf, deviationOf, squaredReadings, squaredTotals, qOf, freedom, spreadHundredthsOf}
 use Rattle.meaning.specs.Publishing.{spreadOf}

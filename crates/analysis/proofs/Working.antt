@@ -23,7 +23,7 @@ use Rattle.algebra.proofs.Sums.{sum-add, sum-sub, sum-ext, sum-cong, sum-zero, 
 use Rattle.algebra.proofs.Solver.{_⊕_, _⊗_, _⊝_, #, _≐_, ring₁, ring₃}
 use Rattle.algebra.proofs.Order.{comb₁}
 use Rattle.algebra.proofs.Bounds.{abs-*-le, abs-sub, abs-sum}
-use Rattle.meaning.specs.declared.Head.{Head}
+use Rattle.records.specs.declared.Head.{Head}
 use Rattle.meaning.specs.Design.{objects, blocks}
 use Rattle.meaning.specs.Analysis.{reading, member, members, restrained, numerator}
 use Rattle.words.specs.Bits.{bit, lowestOf, withoutLowest}

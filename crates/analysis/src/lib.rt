@@ -1,11 +1,11 @@
 // A whole job worked out at once: totals, then values, deviations and spread.
 use judging::judged_with_words;
-use meaning::Head;
-use meaning::Parameters;
-use meaning::Solved;
-use meaning::Spread;
-use meaning::Spreading;
-use meaning::Verdict;
+use records::Head;
+use records::Parameters;
+use records::Solved;
+use records::Spread;
+use records::Spreading;
+use records::Verdict;
 use spread::spread_from;
 use weighing::weigh;
 use words::lowest;

@@ -1,7 +1,7 @@
 -- What solving a file answers, beside what it lays into the lent rooms. Assumes nothing.
 use Prim.Native.Nat.{ℕ}
 use mathlib.Core.List.{List}
-use Rattle.meaning.specs.declared.Solved.{Solved}
+use Rattle.records.specs.declared.Solved.{Solved}
 use Rattle.meaning.specs.Calls.{solvedUnder}
 use Rattle.meaning.specs.File.{headOf, blocksOf, readingsOf, setOf, solveVerdict}
 

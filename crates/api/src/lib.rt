@@ -1,6 +1,6 @@
 // The bench for programs in C and Rust. Each exported function is one call of the bench: its refusal number is handed back, 0 where it accepts, and the rest of its
 // answer is laid into lent slots, as far as there are slots. hosts/bench.h says what stands in each.
-use meaning::Head;
+use records::Head;
 use slots::lay_judged;
 use slots::lay_listed;
 use slots::lay_solved;

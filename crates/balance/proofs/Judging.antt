@@ -19,8 +19,8 @@ use Rattle.algebra.specs.Buffers.{over}
 use Rattle.algebra.proofs.Filling.{getD-over}
 use Rattle.algebra.proofs.Sums.{sumℕ-le-const}
 use Rattle.algebra.proofs.Tests.{all-cong, all-more, all-fails}
-use Rattle.meaning.specs.declared.Head.{Head}
-use Rattle.meaning.specs.declared.Judged.{Judged}
+use Rattle.records.specs.declared.Head.{Head}
+use Rattle.records.specs.declared.Judged.{Judged}
 use Rattle.meaning.specs.Design.{objects, blocks, occ, left, right, company, opposition, balanced, beta}
 use Rattle.meaning.specs.Refusals.{accepted, refused, test}
 use Rattle.meaning.specs.Calls.{wordAt, designVerdict, wordsUnder, judgeVerdict, judged, noParameters, tableOf, companyTable, oppositionTable}

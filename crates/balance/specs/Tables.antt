@@ -5,8 +5,8 @@ use mathlib.Core.List.{List, []}
 use lib.ListN.{getD}
 use lib.Dec.{eqb}
 use Rattle.algebra.specs.Ranges.{all}
-use Rattle.meaning.specs.declared.Judged.{Judged}
-use Rattle.meaning.specs.declared.Parameters.{Parameters}
+use Rattle.records.specs.declared.Judged.{Judged}
+use Rattle.records.specs.declared.Parameters.{Parameters}
 use Rattle.meaning.specs.Refusals.{test}
 use Rattle.meaning.specs.Calls.{given, noParameters}
 use Rattle.pairs.specs.Meetings.{entry}

@@ -1,8 +1,8 @@
 // The judgement of a design, read off its two pair tables.
-use meaning::Head;
-use meaning::Judged;
-use meaning::Parameters;
-use meaning::Verdict;
+use records::Head;
+use records::Judged;
+use records::Parameters;
+use records::Verdict;
 ghost use mathlib.Core.Path.{_≡_};
 ghost use Prim.Native.Nat.{_-_, _≤_};
 ghost use Rattle.meaning.specs.Calls.{designVerdict, wordsUnder, judged, noParameters};

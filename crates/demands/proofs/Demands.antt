@@ -11,7 +11,7 @@ use lib.Dec.{eqb, ltb, leb}
 use lib.ListN.{length, getD}
 use lib.IntN.{ℤ, pos, natAbs, _-ℤ_, _*ℤ_, _+ℤ_}
 use Rattle.algebra.specs.Ranges.{sum}
-use Rattle.meaning.specs.declared.Head.{Head}
+use Rattle.records.specs.declared.Head.{Head}
 use Rattle.meaning.specs.Design.{objects, blocks, sized, listLength, company, Balanced, balanced, beta, parametersOf, occ, left, right}
 use Rattle.meaning.specs.Analysis.{total, restrained, vbeta, numeratorOf, denominatorOf, deviationOf, squaredReadings, squaredTotals, q, qOf, freedom, spreadHundredthsOf, member, members}
 use Rattle.meaning.specs.Publishing.{published, float, Near, valueOf, noSpread, spreadOf}
@@ -20,7 +20,7 @@ use Rattle.meaning.specs.Refusals.{accepted, refused, test, _⨾_, room, offend
 use Rattle.meaning.specs.Calls.{given, written, designVerdict, judgeVerdict, jobVerdict, solvedUnder, noParameters, noSpreading, wordAt}
 use Rattle.meaning.specs.File.{headOf, secondAt, thirdAt, fourthAt, endAt, blocksAt, readingsAt, blocksOf, setOf, sumOf, readingsOf, fields, readVerdict, solveVerdict}
 use Rattle.meaning.specs.Text.{textOf, benchText}
-use Rattle.meaning.specs.declared.Spread.the-variants.{Of}
+use Rattle.records.specs.declared.Spread.the-variants.{Of}
 use Rattle.algebra.proofs.Filling.{getD-over, getD-past}
 use Rattle.laws.proofs.Chains.{sound, judged-sound, job, accepts, test-yes}
 use Rattle.laws.proofs.Counting.{accepts-exactly, balanced-is, parameters}

@@ -9,9 +9,9 @@ use lib.Dec.{eqb, leb, ltb}
 use lib.IntN.{ℤ, natAbs}
 use lib.ListN.{length, take, drop}
 use lib.Seq.{take-at, drop-at}
-use Rattle.meaning.specs.declared.Head.{Head}
-use Rattle.meaning.specs.declared.Verdict.{Verdict}
-use Rattle.meaning.specs.declared.JobWritten.{JobWritten}
+use Rattle.records.specs.declared.Head.{Head}
+use Rattle.records.specs.declared.Verdict.{Verdict}
+use Rattle.records.specs.declared.JobWritten.{JobWritten}
 use Rattle.meaning.specs.Design.{objects, blocks, sized, listLength, balanced}
 use Rattle.meaning.specs.Refusals.{accepted, refused, test, _⨾_, room, offender, farReading, sumLimit}
 use Rattle.meaning.specs.Calls.{given, jobVerdict}

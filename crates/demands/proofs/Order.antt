@@ -6,8 +6,8 @@ use Prim.Native.Nat.{ℕ, zero, suc, _+_, _*_, _^_}
 use lib.Dec.{eqb, ltb, leb}
 use lib.ListN.{getD, length}
 use lib.IntN.{natAbs}
-use Rattle.meaning.specs.declared.Verdict.{Verdict}
-use Rattle.meaning.specs.declared.Verdict.the-variants.{Accepted, Refused}
+use Rattle.records.specs.declared.Verdict.{Verdict}
+use Rattle.records.specs.declared.Verdict.the-variants.{Accepted, Refused}
 use Rattle.meaning.specs.Design.{objects, blocks, sized, listLength, balanced}
 use Rattle.meaning.specs.Refusals.{test, _⨾_, room, offender, farReading, sumLimit}
 use Rattle.meaning.specs.Publishing.{noSpread, spreadOf, spreadFreedom}

@@ -11,7 +11,7 @@ use Prim.Native.Nat.{ℕ, _+_, _*_, _^_, _≤_}
 use lib.Dec.{eqb, leb, ltb}
 use lib.IntN.{ℤ, pos, negsuc, natAbs}
 use lib.ListN.{length, take, drop}
-use Rattle.meaning.specs.declared.Head.{Head}
+use Rattle.records.specs.declared.Head.{Head}
 use Rattle.meaning.specs.Design.{objects, sized, balanced}
 use Rattle.meaning.specs.Refusals.{accepted, refused, test, _⨾_, offender, farReading, sumLimit}
 use Rattle.meaning.specs.Calls.{jobVerdict}

@@ -1,6 +1,6 @@
 // The tests of a design's head and of its block list.
-use meaning::Head;
-use meaning::Verdict;
+use records::Head;
+use records::Verdict;
 ghost use mathlib.Core.Path.{_≡_};
 ghost use Prim.Native.Nat.{_<_};
 ghost use lib.ListN.{length};

@@ -15,7 +15,7 @@ use lib.Dec.{eqb, lit<}
 use lib.Pow.{pow-mono, shl-exact}
 use lib.ListN.{length, getD, take, drop}
 use lib.Seq.{drop-cons, drop-length}
-use Rattle.meaning.specs.declared.Head.{Head}
+use Rattle.records.specs.declared.Head.{Head}
 use Rattle.meaning.specs.Design.{plus, moved, left, right}
 use Rattle.meaning.specs.Calls.{word, wordAt}
 use Rattle.laws.specs.Fits.{Fits}

@@ -1,7 +1,7 @@
 // The development of a design's initial blocks into lent words.
 use design::pairs_refusal;
-use meaning::Head;
-use meaning::Verdict;
+use records::Head;
+use records::Verdict;
 ghost use mathlib.Core.Path.{_≡_};
 ghost use mathlib.Core.List.{map};
 ghost use Prim.Native.Nat.{_+_, _*_, _≤_, _<_};

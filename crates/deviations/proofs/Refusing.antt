@@ -7,14 +7,14 @@ use borrow.Author.Tests.{lt-ltb, le-ltb}
 use lib.Dec.{ltb}
 use lib.Pow.{pow-mono}
 use lib.IntN.{ℤ, pos}
-use Rattle.meaning.specs.declared.Head.{Head}
-use Rattle.meaning.specs.declared.Verdict.{Verdict}
-use Rattle.meaning.specs.declared.Verdict.the-variants.{Accepted, Refused}
-use Rattle.meaning.specs.declared.Spreading.{Spreading}
-use Rattle.meaning.specs.declared.Solved.{Solved}
-use Rattle.meaning.specs.declared.JobSpread.{JobSpread}
-use Rattle.meaning.specs.declared.SquareSum.{SquareSum}
-use Rattle.meaning.specs.declared.BlockDeviation.{BlockDeviation}
+use Rattle.records.specs.declared.Head.{Head}
+use Rattle.records.specs.declared.Verdict.{Verdict}
+use Rattle.records.specs.declared.Verdict.the-variants.{Accepted, Refused}
+use Rattle.records.specs.declared.Spreading.{Spreading}
+use Rattle.records.specs.declared.Solved.{Solved}
+use Rattle.records.specs.declared.JobSpread.{JobSpread}
+use Rattle.records.specs.declared.SquareSum.{SquareSum}
+use Rattle.records.specs.declared.BlockDeviation.{BlockDeviation}
 use Rattle.meaning.specs.Design.{objects, blocks}
 use Rattle.meaning.specs.Analysis.{deviationOf, vbeta, qOf}
 use Rattle.meaning.specs.Refusals.{_⨾_, accepted, refused, clean, inBalance, restraint, inReach, exists, room}

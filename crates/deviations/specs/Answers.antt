@@ -1,7 +1,7 @@
 -- What a refused deviation is. Assumes nothing.
 use lib.IntN.{pos}
-use Rattle.meaning.specs.declared.Verdict.{Verdict}
-use Rattle.meaning.specs.declared.BlockDeviation.{BlockDeviation}
+use Rattle.records.specs.declared.Verdict.{Verdict}
+use Rattle.records.specs.declared.BlockDeviation.{BlockDeviation}
 
 -- a verdict with no deviation
 abbrev pub noDeviation : Verdict → BlockDeviation

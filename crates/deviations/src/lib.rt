@@ -1,11 +1,11 @@
 // Deviations, Q and spread of a job. They do not depend on the restraint, so any accepted one serves: object 0 with the sum 0.
 use analysis::analyse;
-use meaning::BlockDeviation;
-use meaning::Head;
-use meaning::JobSpread;
-use meaning::SquareSum;
-use meaning::Verdict;
 use readings::blocks_refusal;
+use records::BlockDeviation;
+use records::Head;
+use records::JobSpread;
+use records::SquareSum;
+use records::Verdict;
 ghost use mathlib.Core.Path.{_≡_};
 ghost use lib.ListN.{length};
 ghost use Rattle.meaning.specs.Refusals.{refused};

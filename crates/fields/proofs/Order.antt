@@ -5,7 +5,7 @@ use mathlib.Core.List.{List}
 use native.Mathlib.Omega.{arith}
 use borrow.Author.Tests.{eq-eqb, ne-eqb}
 use lib.ListN.{length, getD}
-use Rattle.meaning.specs.declared.Head.{Head}
+use Rattle.records.specs.declared.Head.{Head}
 use Rattle.meaning.specs.Design.{blocks, sized, listLength}
 use Rattle.meaning.specs.Refusals.{accepted, refused, _⨾_, sizes}
 use Rattle.meaning.specs.File.{fieldVerdict, headOf, secondAt, thirdAt, fourthAt, endAt, fields}

@@ -1,10 +1,10 @@
 // The four fields of a job file: their refusals in file order, the sizes that the first tells, and the places that follow from these.
 use design::sized;
-use meaning::Field;
-use meaning::Head;
-use meaning::Verdict;
 use numbers::byte;
 use reader::take;
+use records::Field;
+use records::Head;
+use records::Verdict;
 ghost use mathlib.Core.Path.{_≡_};
 ghost use Rattle.meaning.specs.Design.{blocks};
 ghost use Rattle.meaning.specs.Refusals.{_⨾_, sizes};

@@ -1,6 +1,6 @@
 // The lines of the listing that hold figures: a value, a deviation, the spread. Each function puts its line into lent bytes from a place on, and answers the place after it.
-use meaning::Spread;
-use meaning::Spreading;
+use records::Spread;
+use records::Spreading;
 ghost use Rattle.algebra.specs.Buffers.{Wrote};
 ghost use Rattle.meaning.specs.Text.{valueLine, devLine, lastWord, spreadLine};
 

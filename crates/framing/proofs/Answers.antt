@@ -5,7 +5,7 @@ use mathlib.Core.List.{List}
 use borrow.Author.Tests.{le-leb, lt-leb, eq-eqb, ne-eqb}
 use lib.ListN.{length, getD}
 use Rattle.meaning.specs.File.{big, fieldVerdict, fieldAt}
-use Rattle.meaning.specs.declared.Field.the-variants.{Body, Unfit}
+use Rattle.records.specs.declared.Field.the-variants.{Body, Unfit}
 
 module _ (s : List ℕ) (at tag len : ℕ) where
   -- the three bytes of its start are not all there

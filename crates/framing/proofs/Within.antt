@@ -9,9 +9,9 @@ use lib.ListN.{length, getD}
 use lib.Dec.{leb, eqb}
 use Rattle.meaning.specs.Refusals.{accepted, refused, test, _⨾_}
 use Rattle.meaning.specs.File.{big, fieldVerdict, fieldUnder, fieldAt, fieldSays}
-use Rattle.meaning.specs.declared.Field.the-variants.{Body, Unfit}
-use Rattle.meaning.specs.declared.Verdict.{Verdict}
-use Rattle.meaning.specs.declared.Verdict.the-variants.{Accepted, Refused}
+use Rattle.records.specs.declared.Field.the-variants.{Body, Unfit}
+use Rattle.records.specs.declared.Verdict.{Verdict}
+use Rattle.records.specs.declared.Verdict.the-variants.{Accepted, Refused}
 
 -- what is known of the body from `start` up to `next`
 pub record Within (s : List ℕ) (at len start next : ℕ) : Type 0 where

@@ -1,6 +1,6 @@
 // Fields of a job file: a tag byte, a length of two bytes, a body. Whether the field that is wanted stands at a place, and where its body is.
-use meaning::Field;
 use numbers::two_bytes;
+use records::Field;
 ghost use mathlib.Core.Path.{_≡_};
 ghost use Rattle.meaning.specs.File.{fieldAt, fieldNext};
 

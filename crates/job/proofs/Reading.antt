@@ -4,8 +4,8 @@ use mathlib.Core.Path.{_≡_, sym, _∙_}
 use mathlib.Core.List.{List}
 use native.Mathlib.Omega.{arith}
 use lib.IntN.{ℤ}
-use Rattle.meaning.specs.declared.Head.{Head}
-use Rattle.meaning.specs.declared.JobRead.{JobRead}
+use Rattle.records.specs.declared.Head.{Head}
+use Rattle.records.specs.declared.JobRead.{JobRead}
 use Rattle.meaning.specs.Refusals.{accepted}
 use Rattle.meaning.specs.Calls.{jobVerdict}
 use Rattle.meaning.specs.File.{headOf, thirdAt, readingsAt, blocksOf, setOf, sumOf, readingsOf, fields, readVerdict, readAnswer}

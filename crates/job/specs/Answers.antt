@@ -2,8 +2,8 @@
 use Prim.Native.Nat.{ℕ}
 use mathlib.Core.List.{List}
 use lib.IntN.{pos}
-use Rattle.meaning.specs.declared.Verdict.{Verdict}
-use Rattle.meaning.specs.declared.JobRead.{JobRead}
+use Rattle.records.specs.declared.Verdict.{Verdict}
+use Rattle.records.specs.declared.JobRead.{JobRead}
 use Rattle.meaning.specs.Calls.{given}
 use Rattle.meaning.specs.File.{headOf, blocksAt, readingsAt, setOf, sumOf, noHead}
 

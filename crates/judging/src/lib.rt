@@ -1,7 +1,7 @@
 // A whole job judged once, and the words of its design laid into the lent room.
-use meaning::Head;
-use meaning::Judged;
-use meaning::Verdict;
+use records::Head;
+use records::Judged;
+use records::Verdict;
 use refusals::judged_with_rooms;
 ghost use mathlib.Core.Path.{_≡_};
 ghost use Prim.Native.Nat.{_*_, _≤_};

@@ -17,7 +17,7 @@ use lib.Signed.{_≤ℤ_, _<ℤ_}
 use Rattle.algebra.specs.Ranges.{sum}
 use Rattle.algebra.proofs.Order.{natural}
 use Rattle.algebra.proofs.Sums.{sum-cong}
-use Rattle.meaning.specs.declared.Head.{Head}
+use Rattle.records.specs.declared.Head.{Head}
 use Rattle.meaning.specs.Design.{objects, blocks, balanced, beta}
 use Rattle.meaning.specs.Analysis.{sq, reading, sign, total, members, restrained, vbeta, numeratorOf, denominatorOf, difference, deviationOf, squaredReadings, squaredTotals, q, qOf}
 use Rattle.laws.proofs.Chains.{Sound, Job}

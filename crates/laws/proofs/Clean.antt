@@ -17,7 +17,7 @@ use lib.Dec.{ltb}
 use borrow.Author.Tests.{eq-eqb, ne-eqb, eqb-true, ltb-true, ltb-false, not-false}
 use Rattle.algebra.specs.Ranges.{sumℕ}
 use Rattle.algebra.proofs.Tests.{first-before}
-use Rattle.meaning.specs.declared.Head.{Head}
+use Rattle.records.specs.declared.Head.{Head}
 use Rattle.meaning.specs.Design.{objects, withFixed, blocks, occ, plus, moved, left, right}
 use Rattle.meaning.specs.Refusals.{inRange, offends, offender}
 use Rattle.meaning.proofs.Addition.{plus-closed, plus-injective}

@@ -15,7 +15,7 @@ use borrow.Author.Tests.{eqb-true, eq-eqb}
 use Rattle.algebra.specs.Ranges.{sumℕ, all}
 use Rattle.algebra.proofs.Tests.{and-left, and-right, and-both, all-at, all-each}
 use Rattle.algebra.proofs.Sums.{sumℕ-cong}
-use Rattle.meaning.specs.declared.Head.{Head}
+use Rattle.records.specs.declared.Head.{Head}
 use Rattle.meaning.specs.Design.{objects, blocks, occ, left, right, company, opposition, Balanced, balanced, beta}
 use Rattle.meaning.specs.Refusals.{accepted}
 use Rattle.meaning.specs.Calls.{designVerdict}

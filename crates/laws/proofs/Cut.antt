@@ -14,9 +14,9 @@ use borrow.Author.Tests.{le-leb, ne-eqb}
 use lib.Dec.{eqb}
 use lib.ListN.{length, getD, take}
 use lib.Seq.{take-all, length-take-le, getD-take}
-use Rattle.meaning.specs.declared.Head.{Head}
-use Rattle.meaning.specs.declared.Verdict.{Verdict}
-use Rattle.meaning.specs.declared.Verdict.the-variants.{Accepted, Refused}
+use Rattle.records.specs.declared.Head.{Head}
+use Rattle.records.specs.declared.Verdict.{Verdict}
+use Rattle.records.specs.declared.Verdict.the-variants.{Accepted, Refused}
 use Rattle.meaning.specs.Design.{blocks, sized, listLength}
 use Rattle.meaning.specs.Refusals.{accepted, refused, test, _⨾_, sizes}
 use Rattle.meaning.specs.File.{big, fieldVerdict, headOf, fields, readVerdict}

@@ -18,7 +18,7 @@ use borrow.Author.Tests.{eq-eqb, ne-eqb}
 use Rattle.algebra.specs.Ranges.{sum}
 use Rattle.algebra.proofs.Solver.{_⊕_, _⊗_, _⊝_, ⊖_, #, _≐_, ring₂, ring₃, ring₄, ring₅, ring₆, ring₇}
 use Rattle.algebra.proofs.Order.{pos-nonneg, ≤ℤ-*, <ℤ-*, *ℤ-cancel-l, comb₁, comb₂}
-use Rattle.meaning.specs.declared.Head.{Head}
+use Rattle.records.specs.declared.Head.{Head}
 use Rattle.meaning.specs.Design.{objects, blocks, left, right, beta}
 use Rattle.meaning.specs.Analysis.{sq, reading, member, members, restrained, vbeta, numeratorOf, denominatorOf, along, difference, deviationOf, qOf}
 use Rattle.meaning.specs.Publishing.{published}

@@ -10,10 +10,10 @@ use lib.Dec.{ltb, lit<}
 use lib.IntN.{ℤ, pos, negsuc, natAbs}
 use lib.ListN.{length, length-append}
 use borrow.Author.Tests.{ltb-false}
-use Rattle.meaning.specs.declared.Parameters.{Parameters}
-use Rattle.meaning.specs.declared.Spread.{Spread}
-use Rattle.meaning.specs.declared.Spread.the-variants.{Of, None}
-use Rattle.meaning.specs.declared.Spreading.{Spreading}
+use Rattle.records.specs.declared.Parameters.{Parameters}
+use Rattle.records.specs.declared.Spread.{Spread}
+use Rattle.records.specs.declared.Spread.the-variants.{Of, None}
+use Rattle.records.specs.declared.Spreading.{Spreading}
 use Rattle.meaning.specs.Text.{ascii, digits, spaced, signedText, each, line, designLine, valueLine, devLine, lastWord, spreadLine}
 
 -- one digit more than the tenth has

@@ -12,7 +12,7 @@ use Rattle.algebra.specs.Ranges.{sum}
 use Rattle.algebra.proofs.Solver.{_⊕_, _⊗_, _⊝_, ⊖_, _≐_, ring₂, ring₃, ring₄}
 use Rattle.algebra.proofs.Order.{pos-sub}
 use Rattle.algebra.proofs.Sums.{sum-ext, sum-sub, pos-sum}
-use Rattle.meaning.specs.declared.Head.{Head}
+use Rattle.records.specs.declared.Head.{Head}
 use Rattle.meaning.specs.Design.{objects, blocks, occ, left, right, company, opposition, balanced, beta}
 use Rattle.meaning.specs.Analysis.{sign, difference}
 use Rattle.laws.proofs.Chains.{Sound}

@@ -20,7 +20,7 @@ use Rattle.algebra.proofs.Solver.{_⊕_, _⊝_, _≐_, ring₂}
 use Rattle.algebra.proofs.Order.{le-+, pos-nonneg}
 use Rattle.algebra.proofs.Sums.{sum-sq-nonneg}
 use Rattle.algebra.proofs.Bounds.{abs-*, abs-+, abs-sub, abs-*-le, abs-mono, abs-square, abs-sum, abs-weighted}
-use Rattle.meaning.specs.declared.Head.{Head}
+use Rattle.records.specs.declared.Head.{Head}
 use Rattle.meaning.specs.Design.{objects, blocks, occ, left, right, balanced, beta}
 use Rattle.meaning.specs.Analysis.{sq, reading, sign, total, member, members, restrained, vbeta, numeratorOf, denominatorOf, along, difference, deviationOf, squaredReadings, squaredTotals, q, qOf, freedom, root, spreadHundredths, spreadHundredthsOf}
 use Rattle.meaning.specs.Publishing.{minus, nearest, published}

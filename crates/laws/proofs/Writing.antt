@@ -16,8 +16,8 @@ use lib.Dec.{eqb, leb, ltb, lit<}
 use lib.IntN.{ℤ, natAbs}
 use lib.ListN.{length, getD, take, drop, length-append, length-drop}
 use lib.Seq.{take-all, take-at, take-add, drop-at, drop-cons, drop-drop, getD-drop}
-use Rattle.meaning.specs.declared.Head.{Head}
-use Rattle.meaning.specs.declared.Verdict.{Verdict}
+use Rattle.records.specs.declared.Head.{Head}
+use Rattle.records.specs.declared.Verdict.{Verdict}
 use Rattle.meaning.specs.Design.{objects, withFixed, blocks, sized, listLength}
 use Rattle.meaning.specs.Refusals.{accepted, test, _⨾_, sizes}
 use Rattle.meaning.specs.Calls.{jobVerdict}

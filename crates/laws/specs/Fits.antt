@@ -1,6 +1,6 @@
 -- The sizes of the request as facts: what a private function asks of a head. Assumes nothing.
 use Prim.Native.Nat.{_*_, _≤_}
-use Rattle.meaning.specs.declared.Head.{Head}
+use Rattle.records.specs.declared.Head.{Head}
 use Rattle.meaning.specs.Design.{objects, blocks}
 
 -- every size of the head is in the range of the request

@@ -1,5 +1,5 @@
 // The lines of the listing that tell the design and a refusal. Each function puts its line into lent bytes from a place on, and answers the place after it.
-use meaning::Parameters;
+use records::Parameters;
 ghost use Rattle.algebra.specs.Buffers.{Wrote};
 ghost use Rattle.meaning.specs.Text.{designLine, refusedLine};
 

@@ -9,10 +9,10 @@ use lib.ListN.{length, getD, take}
 use lib.Seq.{length-take-le, getD-take}
 use Rattle.algebra.specs.Buffers.{over}
 use Rattle.algebra.proofs.Filling.{length-over, getD-over}
-use Rattle.meaning.specs.declared.Head.{Head}
-use Rattle.meaning.specs.declared.Solved.{Solved}
-use Rattle.meaning.specs.declared.Verdict.{Verdict}
-use Rattle.meaning.specs.declared.Verdict.the-variants.{Accepted, Refused}
+use Rattle.records.specs.declared.Head.{Head}
+use Rattle.records.specs.declared.Solved.{Solved}
+use Rattle.records.specs.declared.Verdict.{Verdict}
+use Rattle.records.specs.declared.Verdict.the-variants.{Accepted, Refused}
 use Rattle.meaning.specs.Design.{objects, blocks, parametersOf}
 use Rattle.meaning.specs.Analysis.{vbeta, numeratorOf, denominatorOf, deviationOf}
 use Rattle.meaning.specs.Publishing.{published}

@@ -1,6 +1,6 @@
 // The listing of any byte string.
-use meaning::Listed;
-use meaning::Solved;
+use records::Listed;
+use records::Solved;
 ghost use mathlib.Core.Path.{_≡_};
 ghost use Prim.Native.Nat.{_≤_};
 ghost use lib.ListN.{length, take};

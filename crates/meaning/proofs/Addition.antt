@@ -4,7 +4,7 @@ use mathlib.Core.Path.{_≡_, ap}
 use native.Mathlib.Omega.{arith}
 use native.Mathlib.Decide.{decLt}
 use native.Mathlib.Nat.{mod-lt, div-add-mod', mul-le-mul-right}
-use Rattle.meaning.specs.declared.Head.{Head}
+use Rattle.records.specs.declared.Head.{Head}
 use Rattle.meaning.specs.Design.{plus}
 
 -- a residue moved by a shift is a residue

@@ -11,9 +11,9 @@ use lib.Ieee.{round, fin}
 use lib.ListN.{getD, set, take}
 use Rattle.algebra.specs.Buffers.{over}
 use Rattle.algebra.specs.Ranges.{sum, sumℕ, firstFrom}
-use Rattle.meaning.specs.declared.Head.{Head}
-use Rattle.meaning.specs.declared.Verdict.{Verdict}
-use Rattle.meaning.specs.declared.Judged.{Judged}
+use Rattle.records.specs.declared.Head.{Head}
+use Rattle.records.specs.declared.Verdict.{Verdict}
+use Rattle.records.specs.declared.Judged.{Judged}
 use Rattle.meaning.specs.Design.{sized, occ, plus, left, right, company, opposition, balanced, beta}
 use Rattle.meaning.specs.Analysis.{total, members, restrained, numeratorOf, denominatorOf, along, difference, deviationOf, squaredReadings, squaredTotals, qOf, root, spreadHundredths, spreadHundredthsOf}
 use Rattle.meaning.specs.Publishing.{published, float, floatZero, Near, noValue, spreadOf, spreadFreedom, spreadValue}

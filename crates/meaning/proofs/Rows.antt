@@ -7,9 +7,9 @@ use lib.Dec.{eqb}
 use lib.IntN.{ℤ, pos, natAbs}
 use lib.Ieee.{Float, nan, inf, fin}
 use Rattle.algebra.specs.Ranges.{sum, all, eqZ}
-use Rattle.meaning.specs.declared.Head.{Head}
-use Rattle.meaning.specs.declared.Verdict.{Verdict}
-use Rattle.meaning.specs.declared.Parameters.{Parameters}
+use Rattle.records.specs.declared.Head.{Head}
+use Rattle.records.specs.declared.Verdict.{Verdict}
+use Rattle.records.specs.declared.Parameters.{Parameters}
 use Rattle.meaning.specs.Design.{objects, parametersOf}
 use Rattle.meaning.specs.Analysis.{sq, total, members, restrained, numerator, denominator, q, freedom, spreadHundredths}
 use Rattle.meaning.specs.Publishing.{nearestHundredths}

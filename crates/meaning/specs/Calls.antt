@@ -6,18 +6,18 @@ use lib.ListN.{take, drop, length}
 use lib.IntN.{ℤ, pos, natAbs}
 use lib.Dec.{eqb}
 use Rattle.algebra.specs.Buffers.{over}
-use Rattle.meaning.specs.declared.Head.{Head}
-use Rattle.meaning.specs.declared.Parameters.{Parameters}
-use Rattle.meaning.specs.declared.Verdict.{Verdict}
-use Rattle.meaning.specs.declared.Verdict.the-variants.{Accepted, Refused}
-use Rattle.meaning.specs.declared.Spreading.{Spreading}
-use Rattle.meaning.specs.declared.Judged.{Judged}
-use Rattle.meaning.specs.declared.ObjectTotal.{ObjectTotal}
-use Rattle.meaning.specs.declared.ObjectValue.{ObjectValue}
-use Rattle.meaning.specs.declared.BlockDeviation.{BlockDeviation}
-use Rattle.meaning.specs.declared.SquareSum.{SquareSum}
-use Rattle.meaning.specs.declared.JobSpread.{JobSpread}
-use Rattle.meaning.specs.declared.Solved.{Solved}
+use Rattle.records.specs.declared.Head.{Head}
+use Rattle.records.specs.declared.Parameters.{Parameters}
+use Rattle.records.specs.declared.Verdict.{Verdict}
+use Rattle.records.specs.declared.Verdict.the-variants.{Accepted, Refused}
+use Rattle.records.specs.declared.Spreading.{Spreading}
+use Rattle.records.specs.declared.Judged.{Judged}
+use Rattle.records.specs.declared.ObjectTotal.{ObjectTotal}
+use Rattle.records.specs.declared.ObjectValue.{ObjectValue}
+use Rattle.records.specs.declared.BlockDeviation.{BlockDeviation}
+use Rattle.records.specs.declared.SquareSum.{SquareSum}
+use Rattle.records.specs.declared.JobSpread.{JobSpread}
+use Rattle.records.specs.declared.Solved.{Solved}
 use Rattle.meaning.specs.Design.{objects, blocks, listLength, left, right, company, opposition, parametersOf}
 use Rattle.meaning.specs.Analysis.{total, numeratorOf, denominatorOf, deviationOf, vbeta, squaredReadings, squaredTotals, qOf, freedom, spreadHundredthsOf}
 use Rattle.meaning.specs.Publishing.{valueOf, noValue, noSpread, spreadOf}

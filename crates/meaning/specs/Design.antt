@@ -6,8 +6,8 @@ use mathlib.Core.Path.{_≡_}
 use lib.ListN.{take, drop}
 use lib.Dec.{eqb, leb}
 use Rattle.algebra.specs.Ranges.{sumℕ, all}
-use Rattle.meaning.specs.declared.Head.{Head}
-use Rattle.meaning.specs.declared.Parameters.{Parameters}
+use Rattle.records.specs.declared.Head.{Head}
+use Rattle.records.specs.declared.Parameters.{Parameters}
 
 -- v, the number of objects: the n residues, and ∞ where the flag is 1
 abbrev pub objects : Head → ℕ

@@ -5,12 +5,12 @@ use mathlib.Core.List.{List, [], _∷_}
 use lib.ListN.{getD, take, drop, length}
 use lib.IntN.{ℤ, pos, _-ℤ_}
 use lib.Dec.{eqb, ltb, leb}
-use Rattle.meaning.specs.declared.Head.{Head}
-use Rattle.meaning.specs.declared.Field.{Field}
-use Rattle.meaning.specs.declared.Field.the-variants.{Body, Unfit}
-use Rattle.meaning.specs.declared.Verdict.{Verdict}
-use Rattle.meaning.specs.declared.Verdict.the-variants.{Accepted, Refused}
-use Rattle.meaning.specs.declared.JobRead.{JobRead}
+use Rattle.records.specs.declared.Head.{Head}
+use Rattle.records.specs.declared.Field.{Field}
+use Rattle.records.specs.declared.Field.the-variants.{Body, Unfit}
+use Rattle.records.specs.declared.Verdict.{Verdict}
+use Rattle.records.specs.declared.Verdict.the-variants.{Accepted, Refused}
+use Rattle.records.specs.declared.JobRead.{JobRead}
 use Rattle.meaning.specs.Design.{blocks, listLength}
 use Rattle.meaning.specs.Refusals.{accepted, refused, test, _⨾_, sizes}
 use Rattle.meaning.specs.Calls.{given, contents, rooms}

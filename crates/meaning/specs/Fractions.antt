@@ -4,7 +4,7 @@ use mathlib.Core.List.{List, [], _∷_}
 use mathlib.Core.Path.{_≡_}
 use lib.IntN.{ℤ, pos, _+ℤ_, _-ℤ_, _*ℤ_}
 use lib.Signed.{_≤ℤ_, _<ℤ_}
-use Rattle.meaning.specs.declared.Head.{Head}
+use Rattle.records.specs.declared.Head.{Head}
 use Rattle.meaning.specs.Design.{blocks, left, right}
 use Rattle.meaning.specs.Analysis.{sq, reading, member, numeratorOf, denominatorOf}
 use Rattle.meaning.specs.Publishing.{published}

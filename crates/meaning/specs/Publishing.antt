@@ -6,10 +6,10 @@ use mathlib.Core.Path.{_≡_}
 use lib.IntN.{ℤ, pos, negsuc, negℤ, natAbs}
 use lib.Dec.{ltb}
 use lib.Ieee.{Float, nan, inf, fin, up, down, binary64, round}
-use Rattle.meaning.specs.declared.Head.{Head}
-use Rattle.meaning.specs.declared.Value.{Value}
-use Rattle.meaning.specs.declared.Spread.{Spread}
-use Rattle.meaning.specs.declared.Spread.the-variants.{Of, None}
+use Rattle.records.specs.declared.Head.{Head}
+use Rattle.records.specs.declared.Value.{Value}
+use Rattle.records.specs.declared.Spread.{Spread}
+use Rattle.records.specs.declared.Spread.the-variants.{Of, None}
 use Rattle.meaning.specs.Analysis.{numeratorOf, denominatorOf}
 
 -- whether x is below zero

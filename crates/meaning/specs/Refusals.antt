@@ -6,9 +6,9 @@ use lib.ListN.{getD, take, drop, length}
 use lib.IntN.{ℤ, natAbs}
 use lib.Dec.{eqb, ltb, leb}
 use Rattle.algebra.specs.Ranges.{firstFrom}
-use Rattle.meaning.specs.declared.Head.{Head}
-use Rattle.meaning.specs.declared.Verdict.{Verdict}
-use Rattle.meaning.specs.declared.Verdict.the-variants.{Accepted, Refused}
+use Rattle.records.specs.declared.Head.{Head}
+use Rattle.records.specs.declared.Verdict.{Verdict}
+use Rattle.records.specs.declared.Verdict.the-variants.{Accepted, Refused}
 use Rattle.meaning.specs.Design.{objects, withFixed, blocks, sized, listLength, occ, balanced}
 use Rattle.meaning.specs.Analysis.{reading}
 

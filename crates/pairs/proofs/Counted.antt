@@ -18,8 +18,8 @@ use lib.Pow.{pow-mono}
 use Rattle.algebra.specs.Buffers.{over}
 use Rattle.algebra.proofs.Filling.{getD-over}
 use Rattle.algebra.proofs.Sums.{sumℕ-none, sumℕ-more, sumℕ-cong, sumℕ-le-const, sumℕ-zero}
-use Rattle.meaning.specs.declared.Head.{Head}
-use Rattle.meaning.specs.declared.Verdict.{Verdict}
+use Rattle.records.specs.declared.Head.{Head}
+use Rattle.records.specs.declared.Verdict.{Verdict}
 use Rattle.meaning.specs.Design.{objects, blocks, occ, left, right, company, opposition}
 use Rattle.meaning.specs.Refusals.{accepted, room}
 use Rattle.meaning.specs.Calls.{word, wordAt, designVerdict, developVerdict, wordsUnder, noTable, tableOf}

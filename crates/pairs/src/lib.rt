@@ -1,7 +1,7 @@
 // The meetings of objects in the blocks of a design: the two pair tables, filled in one walk over the developed blocks. A block adds only to the rows and
 // columns of its own objects.
-use meaning::Head;
-use meaning::Verdict;
+use records::Head;
+use records::Verdict;
 ghost use mathlib.Core.Path.{_≡_};
 ghost use mathlib.Core.Bool.{true, false};
 ghost use Prim.Native.Nat.{ℕ, _+_, _*_, _^_, _≤_, _<_};

@@ -12,9 +12,9 @@ use lib.ListN.{length, getD}
 use mir.Syntax.{w8}
 use mir.Val.{Fits}
 use Rattle.algebra.proofs.Tests.{first-bounds}
-use Rattle.meaning.specs.declared.Head.{Head}
-use Rattle.meaning.specs.declared.Verdict.{Verdict}
-use Rattle.meaning.specs.declared.Verdict.the-variants.{Accepted, Refused}
+use Rattle.records.specs.declared.Head.{Head}
+use Rattle.records.specs.declared.Verdict.{Verdict}
+use Rattle.records.specs.declared.Verdict.the-variants.{Accepted, Refused}
 use Rattle.meaning.specs.Design.{objects, blocks, sized, listLength, balanced}
 use Rattle.meaning.specs.Analysis.{reading}
 use Rattle.meaning.specs.Refusals.{accepted, refused, readingLimit, sumLimit, place, test, _⨾_, offends, offender, farReading}

@@ -1,7 +1,7 @@
 // Places in a job file: its restraint, read from where it stands, and a direct call's refusal moved to its own place. Each for any bytes.
 use fields::third_at;
-use meaning::Verdict;
 use numbers::eight_bytes;
+use records::Verdict;
 use signed::signed_64;
 ghost use mathlib.Core.Path.{_≡_};
 ghost use Rattle.meaning.specs.Refusals.{refused, place};

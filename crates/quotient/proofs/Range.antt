@@ -8,7 +8,7 @@ use lib.Dec.{ltb}
 use borrow.Author.Tests.{ltb-true, lt-ltb, le-ltb}
 use Rattle.algebra.proofs.Tests.{and-left, and-right, and-both, and-fails-left, and-fails-right}
 use Rattle.meaning.specs.Publishing.{nearestHundredths, float, floatZero, Near}
-use Rattle.meaning.specs.declared.Value.{Value}
+use Rattle.records.specs.declared.Value.{Value}
 use Rattle.quotient.specs.Quotient.{exact, quotientOf, hundredthsOf, valueFrom}
 use Rattle.quotient.proofs.Floats.{float-near, float-none}
 

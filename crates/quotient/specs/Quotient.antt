@@ -4,7 +4,7 @@ use mathlib.Core.Bool.{Bool, cond, _&&_}
 use lib.IntN.{ℤ, pos, natAbs}
 use lib.Dec.{ltb}
 use lib.Ieee.{Float}
-use Rattle.meaning.specs.declared.Value.{Value}
+use Rattle.records.specs.declared.Value.{Value}
 use Rattle.meaning.specs.Publishing.{nearestHundredths, float, floatZero}
 
 -- the exact range: both numbers are f64s exactly, and the denominator is not 0

@@ -1,5 +1,5 @@
 // The one rounded f64 of a fraction, its nearest hundredths, and the making of a Value. All are total: outside the exact range they answer 0, and no caller goes there.
-use meaning::Value;
+use records::Value;
 ghost use mathlib.Core.Path.{_≡_};
 ghost use mathlib.Core.Bool.{true};
 ghost use Prim.Native.Nat.{_*_, _^_, _<_};

@@ -18,7 +18,7 @@ use borrow.Fn.World.{ArgsD, ResD}
 use borrow.Fn.Kinds.{endedOf}
 use borrow.Author.Needs.{needs}
 use Rattle.meaning.specs.File.{fieldAt, fieldNext}
-use Rattle.meaning.specs.declared.Field.{Field}
+use Rattle.records.specs.declared.Field.{Field}
 use Rattle.reader.specs.declared.Reader.{Reader}
 use Rattle.reader.proofs.reader_at as made
 use Rattle.reader.proofs.field as field

@@ -6,9 +6,9 @@ use lib.ListN.{length}
 use lib.IntN.{ℤ}
 use lib.Dec.{eqb}
 use borrow.Author.Tests.{eq-eqb}
-use Rattle.meaning.specs.declared.Head.{Head}
-use Rattle.meaning.specs.declared.Verdict.{Verdict}
-use Rattle.meaning.specs.declared.SquareSum.{SquareSum}
+use Rattle.records.specs.declared.Head.{Head}
+use Rattle.records.specs.declared.Verdict.{Verdict}
+use Rattle.records.specs.declared.SquareSum.{SquareSum}
 use Rattle.meaning.specs.Design.{sized, listLength}
 use Rattle.meaning.specs.Refusals.{accepted, refused, clean}
 use Rattle.meaning.specs.Calls.{squareSum, slices, designVerdict}

@@ -11,7 +11,7 @@ use Rattle.algebra.specs.Ranges.{sumℕ}
 use Rattle.algebra.proofs.Sums.{sumℕ-more, sumℕ-le-const}
 use Rattle.algebra.proofs.Bounds.{abs-*, sum-squares}
 use Rattle.algebra.proofs.Numbers.{Num, times}
-use Rattle.meaning.specs.declared.Head.{Head}
+use Rattle.records.specs.declared.Head.{Head}
 use Rattle.meaning.specs.Design.{blocks}
 use Rattle.meaning.specs.Analysis.{reading, squaredReadings}
 

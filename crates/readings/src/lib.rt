@@ -1,9 +1,9 @@
 // The readings of a job by themselves: their tests, with those of the two slices' lengths, and the sum of their squares.
 use design::pairs_refusal;
 use design::sized;
-use meaning::Head;
-use meaning::SquareSum;
-use meaning::Verdict;
+use records::Head;
+use records::SquareSum;
+use records::Verdict;
 ghost use mathlib.Core.Path.{_≡_};
 ghost use Prim.Native.Nat.{ℕ, _*_, _<_, _≤_};
 ghost use lib.Dec.{ltb};

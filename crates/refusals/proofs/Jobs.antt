@@ -11,8 +11,8 @@ use lib.Pow.{pow-pos}
 use lib.IntN.{ℤ, natAbs}
 use Rattle.algebra.specs.Buffers.{over}
 use Rattle.algebra.proofs.Tests.{and-both}
-use Rattle.meaning.specs.declared.Head.{Head}
-use Rattle.meaning.specs.declared.Verdict.{Verdict}
+use Rattle.records.specs.declared.Head.{Head}
+use Rattle.records.specs.declared.Verdict.{Verdict}
 use Rattle.meaning.specs.Design.{objects, blocks}
 use Rattle.meaning.specs.Refusals.{_⨾_, accepted, refused, sumLimit, clean, inBalance, restraint, inReach}
 use Rattle.meaning.specs.Calls.{wordAt, wordsUnder, designVerdict, slices, contents, jobVerdict, judgeVerdict, judged}

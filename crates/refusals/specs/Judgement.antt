@@ -1,9 +1,9 @@
 -- The judgement of a job: its verdict, and the parameters of its design under it. Assumes nothing.
 use Prim.Native.Nat.{ℕ}
 use mathlib.Core.List.{List}
-use Rattle.meaning.specs.declared.Head.{Head}
-use Rattle.meaning.specs.declared.Verdict.{Verdict}
-use Rattle.meaning.specs.declared.Judged.{Judged}
+use Rattle.records.specs.declared.Head.{Head}
+use Rattle.records.specs.declared.Verdict.{Verdict}
+use Rattle.records.specs.declared.Judged.{Judged}
 use Rattle.meaning.specs.Design.{parametersOf}
 use Rattle.meaning.specs.Calls.{given, noParameters}
 

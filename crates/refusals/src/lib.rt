@@ -1,11 +1,11 @@
 // The tests of a whole job, in the request's order: the design is judged once, and the judgement handed on.
 use balance::judge_developed;
-use meaning::Head;
-use meaning::Judged;
-use meaning::Parameters;
-use meaning::Verdict;
 use readings::reach_refusal;
 use readings::slices_refusal;
+use records::Head;
+use records::Judged;
+use records::Parameters;
+use records::Verdict;
 ghost use mathlib.Core.Path.{_≡_};
 ghost use Rattle.laws.specs.Fits.{Fits};
 ghost use Rattle.meaning.specs.Refusals.{_⨾_, refused, clean, restraint};

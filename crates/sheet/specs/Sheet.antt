@@ -3,10 +3,10 @@ use Prim.Native.Nat.{ℕ}
 use mathlib.Core.List.{List, _++_}
 use lib.IntN.{ℤ, pos}
 use lib.ListN.{drop, length, getD}
-use Rattle.meaning.specs.declared.Listed.{Listed}
-use Rattle.meaning.specs.declared.Solved.{Solved}
-use Rattle.meaning.specs.declared.Verdict.{Verdict}
-use Rattle.meaning.specs.declared.Verdict.the-variants.{Accepted, Refused}
+use Rattle.records.specs.declared.Listed.{Listed}
+use Rattle.records.specs.declared.Solved.{Solved}
+use Rattle.records.specs.declared.Verdict.{Verdict}
+use Rattle.records.specs.declared.Verdict.the-variants.{Accepted, Refused}
 use Rattle.meaning.specs.Refusals.{room}
 use Rattle.meaning.specs.Calls.{given}
 use Rattle.meaning.specs.Text.{each, designLine, valueLine, devLine, spreadLine, refusedLine}

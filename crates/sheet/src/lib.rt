@@ -1,7 +1,7 @@
 // The listing of what was worked out: its lines one after the other, rendered into lent room.
-use meaning::Listed;
-use meaning::Solved;
-use meaning::Verdict;
+use records::Listed;
+use records::Solved;
+use records::Verdict;
 ghost use mathlib.Core.Path.{_≡_};
 ghost use lib.ListN.{length};
 ghost use Rattle.algebra.specs.Buffers.{Wrote};

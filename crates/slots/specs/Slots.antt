@@ -3,14 +3,14 @@ use Prim.Native.Nat.{ℕ}
 use mathlib.Core.List.{List, [], _∷_}
 use lib.ListN.{getD, length}
 use Rattle.algebra.specs.Buffers.{over}
-use Rattle.meaning.specs.declared.Parameters.{Parameters}
-use Rattle.meaning.specs.declared.Judged.{Judged}
-use Rattle.meaning.specs.declared.JobWritten.{JobWritten}
-use Rattle.meaning.specs.declared.Listed.{Listed}
-use Rattle.meaning.specs.declared.Solved.{Solved}
-use Rattle.meaning.specs.declared.Spread.{Spread}
-use Rattle.meaning.specs.declared.Spread.the-variants.{Of, None}
-use Rattle.meaning.specs.declared.Spreading.{Spreading}
+use Rattle.records.specs.declared.Parameters.{Parameters}
+use Rattle.records.specs.declared.Judged.{Judged}
+use Rattle.records.specs.declared.JobWritten.{JobWritten}
+use Rattle.records.specs.declared.Listed.{Listed}
+use Rattle.records.specs.declared.Solved.{Solved}
+use Rattle.records.specs.declared.Spread.{Spread}
+use Rattle.records.specs.declared.Spread.the-variants.{Of, None}
+use Rattle.records.specs.declared.Spreading.{Spreading}
 use Rattle.meaning.specs.Refusals.{place}
 
 -- a lent answer with the slots at its front; where it is shorter it takes the first ones, where it is longer the rest stays

@@ -1,10 +1,10 @@
 // What a call hands back, laid into lent slots, as far as there are slots: a program in C gets back numbers only. hosts/bench.h says what stands in each.
-use meaning::JobWritten;
-use meaning::Judged;
-use meaning::Listed;
-use meaning::Solved;
-use meaning::Spread;
-use meaning::Verdict;
+use records::JobWritten;
+use records::Judged;
+use records::Listed;
+use records::Solved;
+use records::Spread;
+use records::Verdict;
 ghost use mathlib.Core.Path.{_≡_};
 ghost use lib.ListN.{set};
 ghost use Rattle.algebra.specs.Buffers.{over};

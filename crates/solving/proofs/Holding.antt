@@ -4,10 +4,10 @@ use mathlib.Core.Path.{_≡_, refl, sym, ap, _∙_}
 use mathlib.Core.List.{List, []}
 use native.Mathlib.Omega.{arith}
 use lib.IntN.{ℤ}
-use Rattle.meaning.specs.declared.Head.{Head}
-use Rattle.meaning.specs.declared.Solved.{Solved}
-use Rattle.meaning.specs.declared.Verdict.{Verdict}
-use Rattle.meaning.specs.declared.Verdict.the-variants.{Accepted, Refused}
+use Rattle.records.specs.declared.Head.{Head}
+use Rattle.records.specs.declared.Solved.{Solved}
+use Rattle.records.specs.declared.Verdict.{Verdict}
+use Rattle.records.specs.declared.Verdict.the-variants.{Accepted, Refused}
 use Rattle.meaning.specs.Refusals.{accepted, refused, place}
 use Rattle.meaning.specs.Calls.{given, analyseVerdict, solvedUnder, wordsUnder, valuesUnder, deviationsUnder}
 use Rattle.meaning.specs.File.{headOf, blocksOf, setOf, sumOf, readingsOf, noHead, fields, placed, readVerdict, solveVerdict}

@@ -1,7 +1,7 @@
 -- A job worked out, its verdict moved to its place in the file. Assumes nothing.
 use Prim.Native.Nat.{ℕ}
 use mathlib.Core.List.{List}
-use Rattle.meaning.specs.declared.Solved.{Solved}
+use Rattle.records.specs.declared.Solved.{Solved}
 use Rattle.places.specs.Moved.{movedIn}
 
 -- all but the verdict stays

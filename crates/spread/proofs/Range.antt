@@ -10,9 +10,9 @@ use Rattle.algebra.proofs.Tests.{and-left, and-right, and-both}
 use Rattle.meaning.specs.Analysis.{root, spreadHundredths}
 use lib.Ieee.{Float}
 use lib.IntN.{pos}
-use Rattle.meaning.specs.declared.Spreading.{Spreading}
-use Rattle.meaning.specs.declared.Spread.{Spread}
-use Rattle.meaning.specs.declared.Spread.the-variants.{Of}
+use Rattle.records.specs.declared.Spreading.{Spreading}
+use Rattle.records.specs.declared.Spread.{Spread}
+use Rattle.records.specs.declared.Spread.the-variants.{Of}
 use Rattle.meaning.specs.Publishing.{spreadOf}
 use Rattle.quotient.specs.Quotient.{quotientOf}
 use Rattle.quotient.proofs.Range.{quotient-is}

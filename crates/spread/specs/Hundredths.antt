@@ -2,7 +2,7 @@
 use Prim.Native.Nat.{ℕ, _^_}
 use mathlib.Core.Bool.{Bool, cond, _&&_}
 use lib.Dec.{ltb, leb}
-use Rattle.meaning.specs.declared.Spreading.{Spreading}
+use Rattle.records.specs.declared.Spreading.{Spreading}
 use Rattle.meaning.specs.Analysis.{spreadHundredths}
 use Rattle.meaning.specs.Publishing.{spreadOf}
 

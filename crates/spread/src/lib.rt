@@ -1,7 +1,7 @@
 // The spread from Q, v·beta and f: whole hundredths by a square root, with no product above 64 bits, and their f64.
-use meaning::Spread;
-use meaning::Spreading;
 use quotient::quotient;
+use records::Spread;
+use records::Spreading;
 ghost use mathlib.Core.Path.{_≡_};
 ghost use Prim.Native.Nat.{_+_, _*_, _^_, _<_, _≤_};
 ghost use Rattle.meaning.specs.Publishing.{spreadOf};

@@ -1,5 +1,5 @@
 // The two pair tables of a design, each by itself.
-use meaning::Head;
+use records::Head;
 ghost use mathlib.Core.Path.{_≡_};
 ghost use Rattle.meaning.specs.Calls.{companyTable, oppositionTable};
 ghost use Rattle.tables.specs.Pair.{pairTable};

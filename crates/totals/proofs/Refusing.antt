@@ -8,10 +8,10 @@ use lib.Dec.{leb, ltb}
 use lib.IntN.{ℤ, pos}
 use lib.ListN.{getD, length, getD-replicate}
 use Rattle.algebra.proofs.Filling.{getD-over, length-over}
-use Rattle.meaning.specs.declared.Head.{Head}
-use Rattle.meaning.specs.declared.Verdict.{Verdict}
-use Rattle.meaning.specs.declared.Verdict.the-variants.{Accepted, Refused}
-use Rattle.meaning.specs.declared.ObjectTotal.{ObjectTotal}
+use Rattle.records.specs.declared.Head.{Head}
+use Rattle.records.specs.declared.Verdict.{Verdict}
+use Rattle.records.specs.declared.Verdict.the-variants.{Accepted, Refused}
+use Rattle.records.specs.declared.ObjectTotal.{ObjectTotal}
 use Rattle.meaning.specs.Design.{objects, blocks}
 use Rattle.meaning.specs.Analysis.{total}
 use Rattle.meaning.specs.Refusals.{_⨾_, accepted, refused, clean, inReach}

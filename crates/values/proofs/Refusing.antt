@@ -6,11 +6,11 @@ use native.Mathlib.Omega.{arith}
 use borrow.Author.Tests.{lt-ltb, le-ltb}
 use lib.Dec.{ltb}
 use lib.IntN.{ℤ, pos}
-use Rattle.meaning.specs.declared.Head.{Head}
-use Rattle.meaning.specs.declared.Verdict.{Verdict}
-use Rattle.meaning.specs.declared.Verdict.the-variants.{Accepted, Refused}
-use Rattle.meaning.specs.declared.Value.{Value}
-use Rattle.meaning.specs.declared.ObjectValue.{ObjectValue}
+use Rattle.records.specs.declared.Head.{Head}
+use Rattle.records.specs.declared.Verdict.{Verdict}
+use Rattle.records.specs.declared.Verdict.the-variants.{Accepted, Refused}
+use Rattle.records.specs.declared.Value.{Value}
+use Rattle.records.specs.declared.ObjectValue.{ObjectValue}
 use Rattle.meaning.specs.Design.{objects, blocks}
 use Rattle.meaning.specs.Analysis.{numeratorOf, denominatorOf}
 use Rattle.meaning.specs.Publishing.{published, valueOf, noValue}

@@ -1,6 +1,6 @@
 -- What a refused value is. Assumes nothing.
-use Rattle.meaning.specs.declared.Verdict.{Verdict}
-use Rattle.meaning.specs.declared.ObjectValue.{ObjectValue}
+use Rattle.records.specs.declared.Verdict.{Verdict}
+use Rattle.records.specs.declared.ObjectValue.{ObjectValue}
 use Rattle.meaning.specs.Publishing.{noValue}
 
 -- a verdict with no value

@@ -1,10 +1,10 @@
 // The values of a job: all numerators into lent room, or one object's Value.
 use analysis::analyse;
-use meaning::Head;
-use meaning::ObjectValue;
-use meaning::Verdict;
 use quotient::value_from;
 use readings::blocks_refusal;
+use records::Head;
+use records::ObjectValue;
+use records::Verdict;
 ghost use mathlib.Core.Path.{_≡_};
 ghost use lib.ListN.{length};
 ghost use Rattle.meaning.specs.Refusals.{refused};

@@ -18,7 +18,7 @@ use Rattle.algebra.specs.Buffers.{over}
 use Rattle.algebra.proofs.Filling.{over-ext, length-over, getD-over}
 use Rattle.algebra.proofs.Sums.{sum-none, sum-more, sum-cong, sumℕ-cong}
 use Rattle.algebra.proofs.Bounds.{abs-between, abs-*-le, abs-sum, sum-squares}
-use Rattle.meaning.specs.declared.Head.{Head}
+use Rattle.records.specs.declared.Head.{Head}
 use Rattle.meaning.specs.Design.{objects, blocks, left, right}
 use Rattle.meaning.specs.Analysis.{reading, sign, total, squaredTotals}
 use Rattle.meaning.specs.Refusals.{accepted, room}

@@ -12,8 +12,8 @@ use lib.Dec.{eqb, leb}
 use lib.IntN.{ℤ}
 use lib.ListN.{getD, length}
 use Rattle.algebra.proofs.Tests.{first-before, first-from-none}
-use Rattle.meaning.specs.declared.Head.{Head}
-use Rattle.meaning.specs.declared.Verdict.{Verdict}
+use Rattle.records.specs.declared.Head.{Head}
+use Rattle.records.specs.declared.Verdict.{Verdict}
 use Rattle.meaning.specs.Design.{objects, blocks, sized}
 use Rattle.meaning.specs.Refusals.{accepted, _⨾_, sizes, inReach, room}
 use Rattle.laws.specs.Fits.{Fits}

@@ -1,10 +1,10 @@
 // The totals of a job and the sum of their squares, from the words of its blocks and its readings: the readings are walked once. Balance is not asked.
 use design::sized;
-use meaning::Head;
-use meaning::SquareSum;
-use meaning::Verdict;
 use readings::no_sum;
 use readings::reach_refusal;
+use records::Head;
+use records::SquareSum;
+use records::Verdict;
 use words::lowest;
 use words::without_lowest;
 ghost use mathlib.Core.Path.{_≡_};

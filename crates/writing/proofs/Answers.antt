@@ -9,8 +9,8 @@ use lib.IntN.{ℤ}
 use lib.ListN.{length, drop}
 use Rattle.algebra.specs.Buffers.{Wrote}
 use Rattle.algebra.proofs.Writing.{counts, in-front}
-use Rattle.meaning.specs.declared.Head.{Head}
-use Rattle.meaning.specs.declared.JobWritten.{JobWritten}
+use Rattle.records.specs.declared.Head.{Head}
+use Rattle.records.specs.declared.JobWritten.{JobWritten}
 use Rattle.meaning.specs.Design.{blocks, listLength}
 use Rattle.meaning.specs.Refusals.{accepted, refused, room}
 use Rattle.meaning.specs.Calls.{jobVerdict}

@@ -2,10 +2,10 @@
 use encoding::put_readings;
 use encoding::put_restraint;
 use encoding::put_start;
-use meaning::Head;
-use meaning::JobWritten;
-use meaning::Verdict;
 use printing::put_text;
+use records::Head;
+use records::JobWritten;
+use records::Verdict;
 use refusals::refusal;
 ghost use mathlib.Core.Path.{_≡_};
 ghost use Prim.Native.Nat.{_*_};

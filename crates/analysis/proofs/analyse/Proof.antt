@@ -7,9 +7,9 @@ use denote.Ref.{now}
 use lib.IntN.{ℤ}
 use lib.ListN.{length}
 use mir.Facts.{toZ-ofZ}
-use Rattle.meaning.specs.declared.Head.{Head}
-use Rattle.meaning.specs.declared.Verdict.{Verdict}
-use Rattle.meaning.specs.declared.Judged.{Judged}
+use Rattle.records.specs.declared.Head.{Head}
+use Rattle.records.specs.declared.Verdict.{Verdict}
+use Rattle.records.specs.declared.Judged.{Judged}
 use Rattle.meaning.specs.Design.{objects, blocks, parametersOf}
 use Rattle.meaning.specs.Refusals.{accepted}
 use Rattle.meaning.specs.Calls.{wordsUnder, noParameters, jobVerdict, analyseVerdict}

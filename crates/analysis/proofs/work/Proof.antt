@@ -9,7 +9,7 @@ use denote.Ref.{now}
 use lib.IntN.{ℤ, pos}
 use mir.Facts.{toZ-ofZ}
 use Rattle.algebra.specs.Buffers.{over}
-use Rattle.meaning.specs.declared.SquareSum.{SquareSum}
+use Rattle.records.specs.declared.SquareSum.{SquareSum}
 use Rattle.meaning.specs.Design.{objects, blocks}
 use Rattle.meaning.specs.Analysis.{members, denominator, freedom}
 use Rattle.meaning.specs.Refusals.{accepted}

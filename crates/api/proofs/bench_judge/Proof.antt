@@ -2,7 +2,7 @@
 use mathlib.Core.Path.{_≡_, ap, _∙_}
 use borrow.Author.Needs.{needs}
 use denote.Ref.{now}
-use Rattle.meaning.specs.declared.Judged.{Judged}
+use Rattle.records.specs.declared.Judged.{Judged}
 use Rattle.meaning.specs.Refusals.{number}
 use Rattle.meaning.specs.Calls.{judged}
 use Rattle.slots.specs.Slots.{laid, judgedSlots}

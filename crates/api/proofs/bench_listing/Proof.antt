@@ -2,7 +2,7 @@
 use mathlib.Core.Path.{_≡_, ap, _∙_}
 use denote.Ref.{now}
 use lib.ListN.{length}
-use Rattle.meaning.specs.declared.Listed.{Listed}
+use Rattle.records.specs.declared.Listed.{Listed}
 use Rattle.meaning.specs.Refusals.{number}
 use Rattle.meaning.specs.Text.{listedAnswer}
 use Rattle.slots.specs.Slots.{laid, listedSlots}

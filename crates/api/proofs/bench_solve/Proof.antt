@@ -3,7 +3,7 @@ use mathlib.Core.Path.{_≡_, ap, _∙_}
 use denote.Ref.{now}
 use lib.ListN.{length}
 use Rattle.algebra.specs.Buffers.{over}
-use Rattle.meaning.specs.declared.Solved.{Solved}
+use Rattle.records.specs.declared.Solved.{Solved}
 use Rattle.meaning.specs.Publishing.{spreadValue}
 use Rattle.meaning.specs.Refusals.{number}
 use Rattle.slots.specs.Slots.{laid, solvedSlots}

@@ -4,8 +4,8 @@ use borrow.Author.Needs.{needs}
 use denote.Ref.{now}
 use lib.ListN.{length}
 use mir.Facts.{toZ-ofZ}
-use Rattle.meaning.specs.declared.Head.{Head}
-use Rattle.meaning.specs.declared.JobWritten.{JobWritten}
+use Rattle.records.specs.declared.Head.{Head}
+use Rattle.records.specs.declared.JobWritten.{JobWritten}
 use Rattle.meaning.specs.Refusals.{number}
 use Rattle.meaning.specs.Writing.{writtenAnswer, writtenAfter}
 use Rattle.slots.specs.Slots.{laid, writtenSlots}

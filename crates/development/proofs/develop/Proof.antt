@@ -3,7 +3,7 @@
 use mathlib.Core.Path.{_≡_, sym, _∙_}
 use borrow.Author.Tests.{le-leb, lt-leb}
 use denote.Ref.{now}
-use Rattle.meaning.specs.declared.Verdict.the-variants.{Accepted}
+use Rattle.records.specs.declared.Verdict.the-variants.{Accepted}
 use Rattle.meaning.specs.Calls.{designVerdict, developVerdict}
 use Rattle.laws.proofs.Chains.{sound}
 use native.Mathlib.Omega.{arith}

@@ -9,10 +9,10 @@ use lib.IntN.{ℤ, pos}
 use lib.ListN.{getD}
 use Rattle.algebra.proofs.Filling.{getD-over}
 use Rattle.algebra.proofs.Signs.{read-back}
-use Rattle.meaning.specs.declared.Head.{Head}
-use Rattle.meaning.specs.declared.Verdict.{Verdict}
-use Rattle.meaning.specs.declared.Spreading.{Spreading}
-use Rattle.meaning.specs.declared.Solved.{Solved}
+use Rattle.records.specs.declared.Head.{Head}
+use Rattle.records.specs.declared.Verdict.{Verdict}
+use Rattle.records.specs.declared.Spreading.{Spreading}
+use Rattle.records.specs.declared.Solved.{Solved}
 use Rattle.meaning.specs.Design.{blocks}
 use Rattle.meaning.specs.Analysis.{deviationOf, vbeta}
 use Rattle.meaning.specs.Refusals.{_⨾_, accepted, clean}

@@ -3,8 +3,8 @@ use borrow.Author.Needs.{needs}
 use mathlib.Core.Path.{ap, _∙_}
 use denote.Ref.{now}
 use lib.ListN.{length}
-use Rattle.meaning.specs.declared.Verdict.{Verdict}
-use Rattle.meaning.specs.declared.Solved.{Solved}
+use Rattle.records.specs.declared.Verdict.{Verdict}
+use Rattle.records.specs.declared.Solved.{Solved}
 use Rattle.meaning.specs.Calls.{deviationsUnder}
 use Rattle.deviations.proofs.Refusing.{deviations-verdict}
 use Rattle.deviations.proofs.deviations.Statement.{statement}

@@ -2,7 +2,7 @@
 use borrow.Author.Needs.{needs}
 use mathlib.Core.Path.{sym, ap, _∙_}
 use denote.Ref.{now}
-use Rattle.meaning.specs.declared.JobSpread.{JobSpread}
+use Rattle.records.specs.declared.JobSpread.{JobSpread}
 use Rattle.deviations.proofs.Refusing.{q-of-spread}
 use Rattle.deviations.proofs.q.Statement.{statement}
 use Rattle.deviations.proofs.q.Tie as tie

@@ -45,11 +45,11 @@ use denote.Exit.{yes}
 use denote.Triple.Clauses.{ensured, lasts}
 use Rattle.meaning.specs.File.{fieldAt}
 use Rattle.reader.specs.declared.Reader.{Reader}
-use Rattle.meaning.specs.declared.Field.{Field}
+use Rattle.records.specs.declared.Field.{Field}
 use Rattle.reader.proofs.Reader as T
 use Rattle.reader.proofs.Reader.Laws as T′
-use Rattle.meaning.proofs.Field as S
-use Rattle.meaning.proofs.Field.Laws as S′
+use Rattle.records.proofs.Field as S
+use Rattle.records.proofs.Field.Laws as S′
 use Rattle.framing.proofs.field_at as step
 use Rattle.framing.proofs.field_at.Symbol as step-def
 use Rattle.framing.proofs.field_at.Symbol.{name as #framing·field-at}

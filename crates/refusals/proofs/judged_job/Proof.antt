@@ -3,7 +3,7 @@ use borrow.Author.Needs.{needs}
 use mathlib.Core.Path.{_≡_, sym, ap, _∙_}
 use denote.Ref.{now}
 use mir.Facts.{toZ-ofZ}
-use Rattle.meaning.specs.declared.Judged.{Judged}
+use Rattle.records.specs.declared.Judged.{Judged}
 use Rattle.meaning.specs.Refusals.{_⨾_, accepted, clean, restraint}
 use Rattle.meaning.specs.Calls.{wordsUnder, slices, judgeVerdict}
 use Rattle.laws.proofs.Chains.{sliced}

@@ -3,8 +3,8 @@ use borrow.Author.Needs.{needs}
 use mathlib.Core.Path.{_≡_, sym, ap, _∙_}
 use denote.Ref.{now}
 use mir.Facts.{toZ-ofZ}
-use Rattle.meaning.specs.declared.Verdict.{Verdict}
-use Rattle.meaning.specs.declared.Judged.{Judged}
+use Rattle.records.specs.declared.Verdict.{Verdict}
+use Rattle.records.specs.declared.Judged.{Judged}
 use Rattle.meaning.specs.Refusals.{accepted, refused}
 use Rattle.meaning.specs.Calls.{jobVerdict}
 use Rattle.laws.proofs.Chains.{job}

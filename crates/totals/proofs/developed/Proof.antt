@@ -2,7 +2,7 @@
 use borrow.Author.Needs.{needs}
 use mathlib.Core.Path.{sym, ap, _∙_}
 use denote.Ref.{now}
-use Rattle.meaning.specs.declared.Verdict.{Verdict}
+use Rattle.records.specs.declared.Verdict.{Verdict}
 use Rattle.meaning.specs.Calls.{wordsUnder}
 use Rattle.totals.proofs.Refusing.{develops-clean}
 use Rattle.totals.proofs.developed.Statement.{statement}

@@ -9,8 +9,8 @@ use lib.ListN.{getD}
 use mir.Syntax.{w64}
 use mir.Val.{SFits}
 use mir.Facts.{toZ-ofZ}
-use Rattle.meaning.specs.declared.Verdict.{Verdict}
-use Rattle.meaning.specs.declared.SquareSum.{SquareSum}
+use Rattle.records.specs.declared.Verdict.{Verdict}
+use Rattle.records.specs.declared.SquareSum.{SquareSum}
 use Rattle.meaning.specs.Refusals.{_⨾_, accepted, clean}
 use Rattle.meaning.specs.Calls.{slices}
 use Rattle.weighing.proofs.Developing.{Laid}

@@ -1,7 +1,7 @@
 -- `no_value`: a Value of zeros. Assumes nothing.
 use borrow.Author.Needs.{needs}
 use mathlib.Core.Path.{ap, _∙_}
-use Rattle.meaning.specs.declared.Value.{Value}
+use Rattle.records.specs.declared.Value.{Value}
 use Rattle.meaning.specs.Refusals.{refused}
 use Rattle.values.proofs.Refusing.{value-none}
 use Rattle.values.proofs.no_value.Statement.{statement}

@@ -4,8 +4,8 @@ use mathlib.Core.Path.{ap, _∙_}
 use denote.Ref.{now}
 use lib.ListN.{length}
 use mir.Facts.{toZ-ofZ}
-use Rattle.meaning.specs.declared.Verdict.{Verdict}
-use Rattle.meaning.specs.declared.Solved.{Solved}
+use Rattle.records.specs.declared.Verdict.{Verdict}
+use Rattle.records.specs.declared.Solved.{Solved}
 use Rattle.meaning.specs.Calls.{valuesUnder}
 use Rattle.values.proofs.Refusing.{values-verdict}
 use Rattle.values.proofs.values.Statement.{statement}

@@ -9,7 +9,7 @@ use lib.IntN.{ℤ}
 use lib.ListN.{length}
 use Rattle.algebra.specs.Buffers.{over}
 use Rattle.algebra.proofs.Filling.{length-over}
-use Rattle.meaning.specs.declared.Verdict.{Verdict}
+use Rattle.records.specs.declared.Verdict.{Verdict}
 use Rattle.meaning.specs.Design.{objects, blocks}
 use Rattle.meaning.specs.Refusals.{accepted}
 use Rattle.laws.proofs.Chains.{given-yes, given-no}

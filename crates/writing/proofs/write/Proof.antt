@@ -5,7 +5,7 @@ use borrow.Author.Needs.{needs}
 use denote.Ref.{now}
 use lib.ListN.{length}
 use mir.Facts.{toZ-ofZ}
-use Rattle.meaning.specs.declared.Verdict.{Verdict}
+use Rattle.records.specs.declared.Verdict.{Verdict}
 use Rattle.meaning.specs.Refusals.{accepted}
 use Rattle.meaning.specs.Writing.{writeVerdict}
 use Rattle.writing.proofs.Answers.{Laid, unwritten, fitting, written}

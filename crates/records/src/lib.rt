@@ -1,0 +1,121 @@
+// The types that the crates of the bench share. What each call answers with them is said in crates/meaning/specs.
+
+// The sizes of a design: residues, whether the fixed object takes part, objects a side, initial blocks.
+pub struct Head {
+    pub n: usize,
+    pub flag: usize,
+    pub p: usize,
+    pub m: usize,
+}
+
+// How a call ends: it accepts, or refuses by the request's number at a place.
+pub enum Verdict {
+    Accepted,
+    Refused(u8, usize),
+}
+
+// What stands at a place of a file: a field's body and the byte after it, or the number and place of its refusal.
+pub enum Field {
+    Body(usize, usize),
+    Unfit(u8, usize),
+}
+
+// The parameters of a balanced design, as the paper names them: l1 and l2 are its two lambdas.
+pub struct Parameters {
+    pub v: u64,
+    pub b: u64,
+    pub r: u64,
+    pub p: u64,
+    pub l1: u64,
+    pub l2: u64,
+}
+
+// One object's value: a fraction that is not reduced, its published hundredths of a count, and its f64.
+pub struct Value {
+    pub numerator: i64,
+    pub denominator: u64,
+    pub hundredths: i64,
+    pub value: f64,
+}
+
+// The spread as an f64 with its degrees of freedom, or none.
+pub enum Spread {
+    Of(f64, u64),
+    None,
+}
+
+// What a spread is made from: Q, v times beta, the degrees of freedom, and the whole hundredths.
+pub struct Spreading {
+    pub q: u64,
+    pub vbeta: u64,
+    pub freedom: u64,
+    pub hundredths: u64,
+    pub spread: Spread,
+}
+
+// The answer of a call that judges a design.
+pub struct Judged {
+    pub verdict: Verdict,
+    pub parameters: Parameters,
+}
+
+// The answer of a call for the total of one object.
+pub struct ObjectTotal {
+    pub verdict: Verdict,
+    pub total: i64,
+}
+
+// The answer of a call for the value of one object.
+pub struct ObjectValue {
+    pub verdict: Verdict,
+    pub value: Value,
+}
+
+// The answer of a call for the deviation of one block.
+pub struct BlockDeviation {
+    pub verdict: Verdict,
+    pub numerator: i64,
+    pub denominator: u64,
+}
+
+// The answer of a call for a sum of squares, and for Q.
+pub struct SquareSum {
+    pub verdict: Verdict,
+    pub sum: u64,
+}
+
+// The answer of a call for the spread of a job.
+pub struct JobSpread {
+    pub verdict: Verdict,
+    pub spreading: Spreading,
+}
+
+// The answer of a call that works out a whole job, beside what it lays into the lent rooms: the denominator is that of every value.
+pub struct Solved {
+    pub verdict: Verdict,
+    pub parameters: Parameters,
+    pub denominator: u64,
+    pub spreading: Spreading,
+}
+
+// The answer of a call that reads a job file: its head, the bytes at which its blocks and its readings start, its restraint set and accepted sum.
+pub struct JobRead {
+    pub verdict: Verdict,
+    pub head: Head,
+    pub blocks_at: usize,
+    pub readings_at: usize,
+    pub set: u64,
+    pub sum: i64,
+}
+
+// The answer of a call that writes a job file: how many bytes it wrote.
+pub struct JobWritten {
+    pub verdict: Verdict,
+    pub length: usize,
+}
+
+// The answer of a call that writes the listing: how many bytes it wrote.
+pub struct Listed {
+    pub verdict: Verdict,
+    pub length: usize,
+}

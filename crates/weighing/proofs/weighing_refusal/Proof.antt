@@ -86,8 +86,7 @@ weighing-refusal-spec =
     (λ c. let f = fits _ (passed (c .before .before)) in omega arith)
     returns-2
     returns-3
-    (λ c. search needs)
-    (λ c κs. let f = fits _ (sizes c) in (omega arith, omega arith))
+    (λ c κs. let f = fits _ (sizes c) in (omega arith, omega arith, omega arith))
     (λ c. search needs)
     returns-4
     (λ c κs. search needs)

@@ -36,7 +36,8 @@ use Rattle.weighing.specs.Developed.{totalIn}
 use Rattle.weighing.proofs.Developing.{Laid, laid-squares}
 use Rattle.weighing.proofs.Refusing.{weigh-reach}
 use Rattle.analysis.proofs.Working.{set-within, set-agrees, fitted-signs}
-use Rattle.analysis.specs.Worked.{Measured, numeratorIn, deviationIn, scaleIn, Workable, workedOut, noSolution}
+use Rattle.analysis.specs.Worked.{Measured, numeratorIn, deviationIn, scaleIn, Workable, workedOut}
+use Rattle.judging.specs.Refused.{noSolution}
 
 -- ---- verdicts
 

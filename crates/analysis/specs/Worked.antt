@@ -12,7 +12,6 @@ use Rattle.records.specs.declared.Solved.{Solved}
 use Rattle.meaning.specs.Design.{objects, blocks}
 use Rattle.meaning.specs.Analysis.{reading, members, restrained, numerator, denominator, freedom}
 use Rattle.meaning.specs.Refusals.{accepted}
-use Rattle.meaning.specs.Calls.{noParameters, noSpreading}
 use Rattle.laws.specs.Fits.{Fits}
 use Rattle.spread.specs.Hundredths.{spreadingFrom}
 use Rattle.words.specs.Bits.{bit}
@@ -80,7 +79,3 @@ workedOut h y w p words = record {
   denominator = denominator (members (objects h) w) (scaleIn p);
   spreading = spreadingFrom (scaleIn p * squaresIn y (blocks h) - squaredTotalsIn words y (blocks h) (objects h)) (scaleIn p) (freedom h);
 }
-
--- that of a refusal
-abbrev pub noSolution : Verdict → Solved
-noSolution verdict = record { verdict = verdict; parameters = noParameters; denominator = 0; spreading = noSpreading }

@@ -1,9 +1,9 @@
 // A whole job worked out at once: totals, then values, deviations and spread.
 use judging::judged_with_words;
+use judging::no_solution;
 use records::Head;
 use records::Parameters;
 use records::Solved;
-use records::Spread;
 use records::Spreading;
 use records::Verdict;
 use spread::spread_from;
@@ -19,9 +19,9 @@ ghost use Rattle.algebra.specs.Buffers.{over};
 ghost use Rattle.spread.specs.Hundredths.{spreadingFrom};
 ghost use Rattle.weighing.specs.Developed.{totalIn, Weighed};
 ghost use Rattle.meaning.specs.Design.{objects, blocks};
-ghost use Rattle.meaning.specs.Analysis.{members, freedom};
+ghost use Rattle.meaning.specs.Analysis.{members, denominator, freedom};
 ghost use Rattle.meaning.specs.Calls.{analyseVerdict, solvedUnder, wordsUnder, valuesUnder, deviationsUnder};
-ghost use Rattle.analysis.specs.Worked.{totalAt, squaresIn, Totalled, Held, Measured, Workable, overSet, fittedIn, scaleIn, numeratorIn, deviationIn, workedOut, noSolution};
+ghost use Rattle.analysis.specs.Worked.{totalAt, squaresIn, Totalled, Held, Measured, Workable, overSet, fittedIn, scaleIn, numeratorIn, deviationIn, workedOut};
 
 // Everything at once: words, values and deviations into lent rooms, the design judged once. All rooms are looked at before the first is written.
 pub fn analyse(
@@ -65,33 +65,6 @@ pub fn analyse(
     )
 }
 
-// What a refused job hands back.
-fn no_solution(verdict: Verdict) -> Solved
-    ensures { λ r. ⌜ r ≡ noSolution verdict ⌝ }
-{
-    let parameters = Parameters {
-        v: 0,
-        b: 0,
-        r: 0,
-        p: 0,
-        l1: 0,
-        l2: 0,
-    };
-    let spreading = Spreading {
-        q: 0,
-        vbeta: 0,
-        freedom: 0,
-        hundredths: 0,
-        spread: Spread::None,
-    };
-    Solved {
-        verdict,
-        parameters,
-        denominator: 0,
-        spreading,
-    }
-}
-
 // Works a job out from its words, into rooms that are long enough.
 fn work(
     head: Head,
@@ -114,11 +87,9 @@ fn work(
     let v = head.n + head.flag;
     let b = head.m * head.n;
     let vbeta = parameters.v * (parameters.l2 - parameters.l1);
-    let t = ones(set);
-    fill_values(&totals, v, set, t, vbeta, sum, values);
+    let denominator = fill_values(&totals, v, set, vbeta, sum, values);
     let squared_readings = fill_deviations(words, readings, &totals, b, vbeta, deviations);
     let spreading = measure(head, vbeta, squared_readings, squared_totals.sum);
-    let denominator = t * vbeta;
     Solved {
         verdict: Verdict::Accepted,
         parameters,
@@ -153,20 +124,21 @@ fn set_sum(totals: &[i64; 50], set: u64) -> i64
     sum
 }
 
-// Lays the numerator of every object into `values`; t is how many objects the restraint set has.
+// Lays the numerator of every object into `values`, and hands back their denominator. t is how many objects the restraint set has.
 fn fill_values(
     totals: &[i64; 50],
     v: usize,
     set: u64,
-    t: u64,
     vbeta: u64,
     sum: i64,
     values: &mut [i64],
-)
+) -> u64
     requires { ⌜ Totalled (now totals) v ⌝ }
-    requires { ⌜ (v ≤ length (now values)) × (set < 2 ^ v) × (t ≡ members v set) × (t ≤ 50) × (vbeta ≤ 2600) × (natAbs sum ≤ 1000000000) ⌝ }
+    requires { ⌜ (v ≤ length (now values)) × (set < 2 ^ v) × (vbeta ≤ 2600) × (natAbs sum ≤ 1000000000) ⌝ }
+    ensures { λ r. ⌜ r ≡ denominator (members v set) vbeta ⌝ }
     ensures { λ r. ⌜ now (values .exit) ≡ over v (numeratorIn (totalAt (now (totals .entry))) v set vbeta sum) (now (values .entry)) ⌝ }
 {
+    let t = ones(set);
     let members = t as i64;
     let over_set = set_sum(totals, set);
     let lifted = vbeta as i64 * sum;
@@ -176,6 +148,7 @@ fn fill_values(
         values[i] = members * total - over_set + lifted;
         i += 1;
     }
+    t * vbeta
 }
 
 // What the totals make of block k: left group minus right group.

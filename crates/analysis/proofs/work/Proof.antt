@@ -50,47 +50,32 @@ module _ (c : tie.After-weigh) where
   ranged : Totalled totals (objects (start .args .head))
   ranged = totalled _ _ _ _ _ stands filled
 
--- how many objects the restraint set has
-module _ (c : tie.After-ones) where
-  abbrev weighed : tie.After-weigh
-  weighed = c .before .before .before .before .before .before
-
-  abbrev s : tie.Start
-  s = start weighed
-
-  counted : c .ones .result ≡ members (objects (s .args .head)) (s .args .set)
-  counted = c .ones .ensures ∙ ones-members _ _ (omega (arith, stands weighed .fit .objects-most)) (s .pre .0 .set-inside)
-
-  few : c .ones .result ≤ 50
-  few = omega (arith, counted, members-most (objects (s .args .head)) (s .args .set), stands weighed .fit .objects-most)
-
 fill-values-requires : tie.Need-fill-values-requires
 fill-values-requires c κs =
-    let o = c .before .before in
-    (ranged (weighed o), (s o .pre .1 .0, s o .pre .0 .set-inside, search (counted o), omega (arith, few o), s o .pre .0 .scale-most, rw (toZ-ofZ (s o .fits .sum)) (s o .pre .0 .sum-most)))
+    let w = c .before .before .before .before .before .before .before in
+    (ranged w, (start w .pre .1 .0, start w .pre .0 .set-inside, start w .pre .0 .scale-most, rw (toZ-ofZ (start w .fits .sum)) (start w .pre .0 .sum-most)))
 
 fill-deviations-requires : tie.Need-fill-deviations-requires
 fill-deviations-requires c κs =
-    let o = c .before .before .before .before .before .before in
-    let w = stands (weighed o) in
-    (w .weighed, ((λ i l. held-by _ _ _ (ranged (weighed o)) (w .within .below i l)), (s o .pre .1 .1, s o .pre .0 .scale-most)))
+    let w = c .before .before .before .before .before .before .before .before .before .before .before in
+    (stands w .weighed, ((λ i l. held-by _ _ _ (ranged w) (stands w .within .below i l)), (start w .pre .1 .1, start w .pre .0 .scale-most)))
 
 measure-requires : tie.Need-measure-requires
 measure-requires c κs =
-    let w = c .before .before .before .before .before .before .before .before .before .before .before .before .before .before in
+    let w = c .before .before .before .before .before .before .before .before .before .before .before .before .before in
     subst₂ (λ (R T : ℕ). Measured (start w .args .head) (scaleIn (start w .args .parameters)) R T) (sym (c .before .fill-deviations .ensures .0)) (sym (squared w)) (start w .pre .0 .measured)
 
 returns : tie.Need-returns
 returns c =
-    let o = c .before .before .before .before .before .before .before .before .before in
-    let w = weighed o in
-    let a = s o .args in
+    let f = c .before .before .before .before .before .before in
+    let w = f .before .before .before .before .before .before .before .before in
+    let a = start w .args in
     let spread = c .measure .ensures ∙ (λ j. spreadingFrom (scaleIn (a .parameters) * c .before .before .fill-deviations .ensures .0 j - squared w j) (scaleIn (a .parameters)) (freedom (a .head))) in (
-      (λ j. record { verdict = accepted; parameters = a .parameters; denominator = denominator (counted o j) (scaleIn (a .parameters)); spreading = spread j }),
+      (λ j. record { verdict = accepted; parameters = a .parameters; denominator = f .fill-values .ensures .0 j; spreading = spread j }),
       (
-        c .before .before .before .before .before .before .fill-values .ensures
-            ∙ ap (λ (M : ℤ). over (objects (a .head)) (numeratorIn (totalAt (totals w)) (objects (a .head)) (a .set) (scaleIn (a .parameters)) M) (now (a .values))) (toZ-ofZ (s o .fits .sum))
-            ∙ numerators-agree _ _ _ _ _ (stands w) (filled w) (a .set) (scaleIn (a .parameters)) (a .sum) (now (a .values)) (s o .pre .0 .set-inside),
+        f .fill-values .ensures .1
+            ∙ ap (λ (M : ℤ). over (objects (a .head)) (numeratorIn (totalAt (totals w)) (objects (a .head)) (a .set) (scaleIn (a .parameters)) M) (now (a .values))) (toZ-ofZ (start w .fits .sum))
+            ∙ numerators-agree _ _ _ _ _ (stands w) (filled w) (a .set) (scaleIn (a .parameters)) (a .sum) (now (a .values)) (start w .pre .0 .set-inside),
         c .before .before .fill-deviations .ensures .1 ∙ deviations-agree _ _ _ _ _ (stands w) (filled w) (scaleIn (a .parameters)) (now (a .deviations)),
       ),
     )
@@ -105,11 +90,9 @@ work-spec =
     (λ c. omega (arith, stands (c .before .before .before) .fit .blocks-most))
     (λ c. start (c .before .before .before .before) .pre .0 .less)
     (λ c. omega (arith, start (c .before .before .before .before .before) .pre .0 .scale-most))
-    (λ c κs. tt)
     fill-values-requires
     fill-deviations-requires
     measure-requires
-    (λ c. let o = c .before .before .before .before .before .before .before .before .before in omega (arith, mul-le-mul (few o) (s o .pre .0 .scale-most)))
     (λ c. search needs)
     (λ c. search needs)
     returns)

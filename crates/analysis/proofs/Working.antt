@@ -18,7 +18,7 @@ use lib.IntN.{ℤ, pos, natAbs, _+ℤ_, _-ℤ_, _*ℤ_}
 use lib.ListN.{getD, length}
 use Rattle.algebra.specs.Ranges.{sum}
 use Rattle.algebra.specs.Buffers.{over}
-use Rattle.algebra.proofs.Filling.{length-over, over-ext}
+use Rattle.algebra.proofs.Filling.{over-ext}
 use Rattle.algebra.proofs.Sums.{sum-add, sum-sub, sum-ext, sum-cong, sum-zero, sum-only, sum-split}
 use Rattle.algebra.proofs.Solver.{_⊕_, _⊗_, _⊝_, #, _≐_, ring₁, ring₃}
 use Rattle.algebra.proofs.Order.{comb₁}

@@ -2,11 +2,10 @@
 use Prim.Native.Nat.{ℕ, _+_, _-_, _*_, _^_, _≤_, _<_}
 use mathlib.Core.Path.{_≡_}
 use mathlib.Core.List.{List}
-use lib.ListN.{getD, length}
+use lib.ListN.{getD}
 use lib.IntN.{ℤ, pos, _-ℤ_, _*ℤ_, natAbs}
 use Rattle.algebra.specs.Ranges.{sumℕ}
 use Rattle.records.specs.declared.Head.{Head}
-use Rattle.records.specs.declared.Verdict.{Verdict}
 use Rattle.records.specs.declared.Parameters.{Parameters}
 use Rattle.records.specs.declared.Solved.{Solved}
 use Rattle.meaning.specs.Design.{objects, blocks}

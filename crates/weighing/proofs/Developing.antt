@@ -1,30 +1,29 @@
 -- Totals over words: how a loop builds one, how large it is, and that over the words of a sound design it is the total of the definition.
 --     total-more, total-small, total-most     over any words
 --     filled-at, filled-most, filled-squares  what a room that was filled with them holds
---     Laid, laid                              what the words of a sound design are
---     laid-weighed, laid-totals, laid-squares with its readings, whose totals are the design's
+--     Laid, laid, laid-squares                the words of a sound design: signs, totals and squared totals are the design's
 -- Assumes nothing.
 use mathlib.Core.Path.{_≡_, sym, ap, ap₂, _∙_, subst}
 use mathlib.Core.Bool.{Bool, true, false, cond}
 use mathlib.Core.List.{List}
 use Prim.Native.Nat.{ℕ, _+_, _*_, _/_, _%_, _^_, _≤_, _<_}
-use native.Mathlib.Nat.{le-trans, le-of-eq}
+use native.Mathlib.Nat.{le-trans}
 use native.Mathlib.Omega.{arith}
-use borrow.Author.Tests.{eq-eqb, ne-eqb, le-leb}
-use lib.Dec.{eqb, leb}
+use borrow.Author.Tests.{eq-eqb, ne-eqb}
+use lib.Dec.{eqb}
 use lib.ListN.{getD, length}
 use lib.IntN.{ℤ, pos, natAbs, _+ℤ_, _-ℤ_, _*ℤ_}
 use Rattle.algebra.specs.Buffers.{over}
-use Rattle.algebra.proofs.Filling.{over-ext, length-over, getD-over}
+use Rattle.algebra.proofs.Filling.{length-over, getD-over}
 use Rattle.algebra.proofs.Sums.{sum-none, sum-more, sum-cong, sumℕ-cong}
 use Rattle.algebra.proofs.Bounds.{abs-between, abs-*-le, abs-sum, sum-squares}
 use Rattle.records.specs.declared.Head.{Head}
 use Rattle.meaning.specs.Design.{objects, blocks, left, right}
 use Rattle.meaning.specs.Analysis.{reading, sign, total, squaredTotals}
-use Rattle.meaning.specs.Refusals.{accepted, room}
-use Rattle.meaning.specs.Calls.{word, wordAt, developVerdict}
+use Rattle.meaning.specs.Refusals.{room}
+use Rattle.meaning.specs.Calls.{word, wordAt}
 use Rattle.laws.specs.Fits.{Fits}
-use Rattle.laws.proofs.Chains.{Sound, Readings, accepts, test-yes, sound-accepted}
+use Rattle.laws.proofs.Chains.{Sound}
 use Rattle.laws.proofs.Clean.{left-objects, right-objects, block-once}
 use Rattle.words.specs.Bits.{bit}
 use Rattle.words.proofs.Bits.{bit-most}
@@ -121,12 +120,7 @@ module _ (h : Head) (d : List ℕ) (words : List ℕ) (s : Sound h d) (w : Devel
   unfolding totalIn total
   total-is y i = sum-cong (blocks h) _ _ (λ k l. ap (λ (x : ℤ). x *ℤ reading y k) (sign-is k i l))
 
--- ---- the words of an accepted design and its readings
-
--- room for all words is all that a sound design's development still asks
-pub develop-accepts : (h : Head) (d : List ℕ) (len : ℕ) → Sound h d → 2 * blocks h ≤ len → developVerdict h d len ≡ accepted
-unfolding developVerdict
-develop-accepts h d len s l = accepts (sound-accepted h d s) (test-yes (leb (2 * blocks h) len) 10 0 (le-leb _ _ l))
+-- ---- the words of a sound design, once they are laid
 
 -- the words hold the development
 pub record Laid (h : Head) (d : List ℕ) (words : List ℕ) : Type 0 where
@@ -149,21 +143,7 @@ laid h d l words s m e = record {
     at : Developed h d words
     at = record { at = λ c b. ap (λ (x : List ℕ). getD x c 0) e ∙ getD-over (2 * blocks h) (wordAt h d) l 0 c b m }
 
-module _ (h : Head) (d : List ℕ) (y : List ℤ) (words : List ℕ) (l : Laid h d words) where
-  -- with readings in their range they can be weighed
-  pub laid-weighed : Readings h y → Weighed words y (blocks h)
-  laid-weighed r = record {
-    blocks-most = l .sizes .blocks-most;
-    words-long = l .long;
-    readings-long = le-of-eq (sym (r .readings-long));
-    readings-most = r .readings-most;
-  }
-
-  -- a room that was filled with the totals over them holds the totals of the design
-  pub laid-totals : (room totals : List ℤ) → totals ≡ over (objects h) (totalIn words y (blocks h)) room → totals ≡ over (objects h) (total h d y) room
-  laid-totals room totals e = e ∙ over-ext (objects h) _ _ room (λ i m. l .totals y i)
-
-  -- and their squares add to its squared totals
-  pub laid-squares : squaredTotalsIn words y (blocks h) (objects h) ≡ natAbs (squaredTotals h d y)
-  unfolding squaredTotals
-  laid-squares = sumℕ-cong (objects h) _ _ (λ i b. ap (λ (z : ℤ). natAbs z * natAbs z) (l .totals y i)) ∙ sym (ap natAbs (sum-squares (objects h) (total h d y)))
+-- the squares of its totals add to the squared totals of the design
+pub laid-squares : (h : Head) (d : List ℕ) (y : List ℤ) (words : List ℕ) → Laid h d words → squaredTotalsIn words y (blocks h) (objects h) ≡ natAbs (squaredTotals h d y)
+unfolding squaredTotals
+laid-squares h d y words l = sumℕ-cong (objects h) _ _ (λ i b. ap (λ (z : ℤ). natAbs z * natAbs z) (l .totals y i)) ∙ sym (ap natAbs (sum-squares (objects h) (total h d y)))

@@ -1,11 +1,10 @@
 -- `set_sum`: `sum`, with the totals of every object that is left, is the whole sum throughout. Assumes nothing.
-use mathlib.Core.Path.{_≡_, refl, sym, ap, _∙_, subst}
+use mathlib.Core.Path.{refl, sym, ap, _∙_, subst}
 use Prim.Native.Nat.{ℕ, _≤_, _<_}
 use native.Mathlib.Omega.{arith}
 use denote.Ref.{now}
 use lib.Dec.{lit<}
-use lib.IntN.{ℤ, natAbs, _+ℤ_}
-use lib.ListN.{length}
+use lib.IntN.{natAbs, _+ℤ_}
 use mir.Syntax.{w64}
 use mir.Val.{toZ}
 use Rattle.algebra.proofs.Numbers.{Num, local, number, plus, plus-fits}

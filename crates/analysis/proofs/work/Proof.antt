@@ -2,8 +2,7 @@
 use borrow.Author.Needs.{needs}
 use mathlib.Core.Path.{_≡_, sym, ap, _∙_, subst₂}
 use mathlib.Core.List.{List, replicate}
-use Prim.Native.Nat.{ℕ, _-_, _*_, _≤_}
-use native.Mathlib.Nat.{mul-le-mul}
+use Prim.Native.Nat.{ℕ, _-_, _*_}
 use native.Mathlib.Omega.{arith}
 use denote.Ref.{now}
 use lib.IntN.{ℤ, pos}
@@ -11,12 +10,10 @@ use mir.Facts.{toZ-ofZ}
 use Rattle.algebra.specs.Buffers.{over}
 use Rattle.records.specs.declared.SquareSum.{SquareSum}
 use Rattle.meaning.specs.Design.{objects, blocks}
-use Rattle.meaning.specs.Analysis.{members, denominator, freedom}
+use Rattle.meaning.specs.Analysis.{denominator, freedom}
 use Rattle.meaning.specs.Refusals.{accepted}
 use Rattle.spread.specs.Hundredths.{spreadingFrom}
 use Rattle.laws.proofs.Chains.{given-yes}
-use Rattle.laws.proofs.Solution.{members-most}
-use Rattle.words.proofs.Sides.{ones-members}
 use Rattle.weighing.specs.Developed.{totalIn, squaredTotalsIn}
 use Rattle.weighing.proofs.Refusing.{Weighable, weighable}
 use Rattle.analysis.specs.Worked.{totalAt, Totalled, Measured, scaleIn, numeratorIn}

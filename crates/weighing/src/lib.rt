@@ -65,7 +65,8 @@ fn weighing_refusal(head: Head, words: &[u64], readings: &[i32], room: usize) ->
     Verdict::Accepted
 }
 
-// The first of the words of b blocks that names an object from v on, or 2b where none does. A turn looks at both words of a block, which is a third faster than one at a time.
+// The first of the words of b blocks that names an object from v on, or 2b where none does. A turn of the loop looks at both words of a block, since it is run for
+// every job and no other walk is as long.
 fn stray_word(words: &[u64], b: usize, v: usize) -> usize
     requires { ⌜ (2 * b ≤ length (now words)) × (b ≤ 1300) × (v ≤ 50) ⌝ }
     ensures { λ r. ⌜ r ≡ strayWord (now (words .entry)) (2 * b) v ⌝ }

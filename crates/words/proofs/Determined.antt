@@ -8,12 +8,6 @@ use denote.Triple.Clauses.{AtExit}
 use Rattle.words.proofs.ones as ones
 use Rattle.words.proofs.ones.Kinds as onesKinds
 use Rattle.words.proofs.ones.Reads as onesReads
-use Rattle.words.proofs.in_company as company
-use Rattle.words.proofs.in_company.Kinds as companyKinds
-use Rattle.words.proofs.in_company.Reads as companyReads
-use Rattle.words.proofs.in_opposition as opposition
-use Rattle.words.proofs.in_opposition.Kinds as oppositionKinds
-use Rattle.words.proofs.in_opposition.Reads as oppositionReads
 use Rattle.words.proofs.lowest as lowest
 use Rattle.words.proofs.lowest.Kinds as lowestKinds
 use Rattle.words.proofs.lowest.Reads as lowestReads
@@ -25,16 +19,6 @@ use Rattle.words.proofs.without_lowest.Reads as withoutReads
 module _ (κs : Lfts 0) (a : ArgsD ones.signature κs) (r q : ResD ones.signature κs) (s t : AtExit (endedOf 0 onesKinds.ps onesKinds.r) κs) where
   pub ones-determined : onesReads.Post κs a r s → onesReads.Post κs a q t → r ≡ q
   ones-determined p e = p ∙ sym e
-
--- the same company
-module _ (κs : Lfts 0) (a : ArgsD company.signature κs) (r q : ResD company.signature κs) (s t : AtExit (endedOf 0 companyKinds.ps companyKinds.r) κs) where
-  pub in-company-determined : companyReads.Post κs a r s → companyReads.Post κs a q t → r ≡ q
-  in-company-determined p e = p ∙ sym e
-
--- the same opposition
-module _ (κs : Lfts 0) (a : ArgsD opposition.signature κs) (r q : ResD opposition.signature κs) (s t : AtExit (endedOf 0 oppositionKinds.ps oppositionKinds.r) κs) where
-  pub in-opposition-determined : oppositionReads.Post κs a r s → oppositionReads.Post κs a q t → r ≡ q
-  in-opposition-determined p e = p ∙ sym e
 
 -- the same lowest place
 module _ (κs : Lfts 0) (a : ArgsD lowest.signature κs) (r q : ResD lowest.signature κs) (s t : AtExit (endedOf 0 lowestKinds.ps lowestKinds.r) κs) where

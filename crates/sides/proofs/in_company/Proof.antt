@@ -1,9 +1,10 @@
--- `words::in_company` meets its contract: every one of the pair is left in the word just where both bits are 1. Assumes nothing.
-use Rattle.words.proofs.Bits.{bit-past, pair-full, pair-part}
+-- `sides::in_company` meets its contract: every one of the pair is left in the word just where both bits are 1. Assumes nothing.
+use Rattle.words.proofs.Bits.{bit-past}
+use Rattle.sides.proofs.Masks.{pair-full, pair-part}
 use native.Mathlib.Omega.{arith}
 use borrow.Author.Needs.{needs}
-use Rattle.words.proofs.in_company.Statement.{statement}
-use Rattle.words.proofs.in_company.Tie as tie
+use Rattle.sides.proofs.in_company.Statement.{statement}
+use Rattle.sides.proofs.in_company.Tie as tie
 
 returns : tie.Need-returns
 returns c = rw (bit-past 64 (c .before .args .word) (c .before .args .i) (c .before .fits .word .fits) (omega arith)) (omega arith)

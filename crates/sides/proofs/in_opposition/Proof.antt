@@ -1,12 +1,12 @@
--- `words::in_opposition` meets its contract: the two bits, whose product is at most 1. Assumes nothing.
+-- `sides::in_opposition` meets its contract: the two bits, whose product is at most 1. Assumes nothing.
 use Prim.Native.Nat.{_*_}
 use mathlib.Core.Path.{_≡_}
 use Rattle.words.specs.Bits.{oppositionOf}
 use Rattle.words.proofs.Bits.{product-most}
 use native.Mathlib.Omega.{arith}
 use borrow.Author.Needs.{needs}
-use Rattle.words.proofs.in_opposition.Statement.{statement}
-use Rattle.words.proofs.in_opposition.Tie as tie
+use Rattle.sides.proofs.in_opposition.Statement.{statement}
+use Rattle.sides.proofs.in_opposition.Tie as tie
 
 -- what is multiplied are the two bits
 product : (c : tie.After-holds2) → c .before .holds .result * c .holds2 .result ≡ oppositionOf (c .before .before .args .own) (c .before .before .args .other) (c .before .before .args .i) (c .before .before .args .j)

@@ -1,10 +1,11 @@
--- `words::holds` meets its contract: under the mask of one place the bit is left. Assumes nothing.
+-- `sides::holds` meets its contract: under the mask of one place the bit is left. Assumes nothing.
 use mathlib.Core.Path.{sym}
-use Rattle.words.proofs.Bits.{bit-past, bit-most, place-left}
+use Rattle.words.proofs.Bits.{bit-past, bit-most}
+use Rattle.sides.proofs.Masks.{place-left}
 use native.Mathlib.Omega.{arith}
 use borrow.Author.Needs.{needs}
-use Rattle.words.proofs.holds.Statement.{statement}
-use Rattle.words.proofs.holds.Tie as tie
+use Rattle.sides.proofs.holds.Statement.{statement}
+use Rattle.sides.proofs.holds.Tie as tie
 
 returns : tie.Need-returns
 returns c = sym (bit-past 64 (c .before .args .word) (c .before .args .i) (c .before .fits .word .fits) (omega arith))

@@ -1,0 +1,3 @@
+-- What is proved of two objects in words.
+pub mod Masks
+pub mod Determined

@@ -1,4 +1,4 @@
--- `encoding::bits` meets its contract: a number below 0 is flipped twice, around a cast. Assumes nothing.
+-- `octets::bits` meets its contract: a number below 0 is flipped twice, around a cast. Assumes nothing.
 use mathlib.Core.Path.{_≡_}
 use mathlib.Core.Bool.{true}
 use Prim.Native.Nat.{_-_, _^_}
@@ -10,9 +10,9 @@ use mir.Syntax.{w64}
 use mir.Val.{toZ, ofZ}
 use mir.Facts.{toZ-ofZ}
 use Rattle.algebra.proofs.Signs.{plain, not-below, flipped, size-fits}
-use Rattle.encoding.proofs.Numbers.{bits-above, bits-below}
-use Rattle.encoding.proofs.bits.Statement.{statement}
-use Rattle.encoding.proofs.bits.Tie as tie
+use Rattle.octets.proofs.Numbers.{bits-above, bits-below}
+use Rattle.octets.proofs.bits.Statement.{statement}
+use Rattle.octets.proofs.bits.Tie as tie
 
 module _ (c : tie.Then1) where
   below : ltZ (c .before .args .x) (pos 0) ≡ true

@@ -1,17 +1,17 @@
--- `encoding::put_bytes` meets its contract. It calls itself on the higher bytes, as `bytesOf` does; the measure is the count. Assumes nothing.
+-- `octets::put_bytes` meets its contract. It calls itself on the higher bytes, as `bytesOf` does; the measure is the count. Assumes nothing.
 use Prim.Native.Nat.{ℕ, _<_}
 use native.Mathlib.Omega.{arith}
 use borrow.Author.Needs.{needs}
 use borrow.Fn.Kinds.{In}
 use borrow.Fn.PlainCycle.{Measures, is, falls, and}
 use Rattle.algebra.proofs.Writing.{_then_, named, nothing}
-use Rattle.encoding.proofs.Numbers.{bytes-end, bytes-last}
-use Rattle.encoding.proofs.put_bytes.Reads as put-bytes
-use Rattle.encoding.proofs.put_bytes.Kinds as put-bytes-kinds
-use Rattle.encoding.proofs.+put_bytes.Lts-put_bytes as put-bytes-lts
+use Rattle.octets.proofs.Numbers.{bytes-end, bytes-last}
+use Rattle.octets.proofs.put_bytes.Reads as put-bytes
+use Rattle.octets.proofs.put_bytes.Kinds as put-bytes-kinds
+use Rattle.octets.proofs.+put_bytes.Lts-put_bytes as put-bytes-lts
 use Rattle.printing.proofs.put_byte.Reads as put-byte-reads
-use Rattle.encoding.proofs.+put_bytes.{statement}
-use Rattle.encoding.proofs.+put_bytes.Tie.{close}
+use Rattle.octets.proofs.+put_bytes.{statement}
+use Rattle.octets.proofs.+put_bytes.Tie.{close}
 
 abbrev μ-put-bytes : Measures 1 put-bytes-kinds.ps ℕ
 μ-put-bytes κs a = a .1 .1 .0

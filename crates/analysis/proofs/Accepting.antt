@@ -31,7 +31,7 @@ use Rattle.laws.proofs.Analysis.{vbeta-some, q-nonneg}
 use Rattle.laws.proofs.Sizes.{vbeta-most, squared-readings-most, q-most}
 use Rattle.spread.specs.Hundredths.{spreadingFrom}
 use Rattle.spread.proofs.Range.{Ranged, hundredths-is}
-use Rattle.readings.proofs.Squares.{readings-squares}
+use Rattle.squares.proofs.Squares.{readings-squares}
 use Rattle.weighing.specs.Developed.{totalIn}
 use Rattle.weighing.proofs.Developing.{Laid, laid-squares}
 use Rattle.weighing.proofs.Refusing.{weigh-reach}

@@ -1,4 +1,3 @@
--- The laws of sums of squares and of what hands one back, and what the promises determine.
-pub mod Squares
+-- The tests of a block list past its length, and what the promises determine.
 pub mod Answers
 pub mod Determined

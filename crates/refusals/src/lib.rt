@@ -1,6 +1,6 @@
 // The tests of a whole job, in the request's order: the design is judged once, and the judgement handed on.
 use balance::judge_developed;
-use readings::reach_refusal;
+use reach::reach_refusal;
 use readings::slices_refusal;
 use records::Head;
 use records::Judged;

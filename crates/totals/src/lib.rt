@@ -1,11 +1,11 @@
 // Totals and the sum of their squares: the design is developed into words of its own, which are weighed with the readings. Balance is not asked.
 use development::develop;
-use readings::no_sum;
 use readings::slices_refusal;
 use records::Head;
 use records::ObjectTotal;
 use records::SquareSum;
 use records::Verdict;
+use squares::no_sum;
 use weighing::weigh;
 ghost use mathlib.Core.Path.{_≡_};
 ghost use Rattle.meaning.specs.Refusals.{_⨾_, refused, clean};

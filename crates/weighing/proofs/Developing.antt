@@ -28,7 +28,7 @@ use Rattle.laws.proofs.Clean.{left-objects, right-objects, block-once}
 use Rattle.words.specs.Bits.{bit}
 use Rattle.words.proofs.Bits.{bit-most}
 use Rattle.words.proofs.Sides.{bit-word, word-below}
-use Rattle.readings.proofs.Squares.{squares}
+use Rattle.squares.proofs.Squares.{squares}
 use Rattle.weighing.specs.Developed.{signIn, totalIn, squaredTotalsIn, Weighed, Within}
 
 -- ---- over any words

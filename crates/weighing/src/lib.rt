@@ -1,10 +1,10 @@
 // The totals of a job and the sum of their squares, from the words of its blocks and its readings: the readings are walked once. Balance is not asked.
 use design::sized;
-use readings::no_sum;
-use readings::reach_refusal;
+use reach::reach_refusal;
 use records::Head;
 use records::SquareSum;
 use records::Verdict;
+use squares::no_sum;
 use words::lowest;
 use words::without_lowest;
 ghost use mathlib.Core.Path.{_≡_};

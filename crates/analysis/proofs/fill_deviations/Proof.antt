@@ -15,7 +15,7 @@ use Rattle.algebra.proofs.Numbers.{Num, called, unsigned, widened, widened-fits
 use Rattle.algebra.proofs.Order.{sq-nonneg}
 use Rattle.algebra.proofs.Sums.{sumℕ-none}
 use Rattle.meaning.specs.Analysis.{reading}
-use Rattle.readings.proofs.Squares.{squares-most, squares-more, square-cast}
+use Rattle.squares.proofs.Squares.{squares-most, squares-more, square-cast}
 use Rattle.analysis.specs.Worked.{totalAt, squaresIn, Held, deviationIn}
 use Rattle.analysis.proofs.Working.{fitted-small}
 use Rattle.analysis.proofs.fill_deviations.Statement.{statement}

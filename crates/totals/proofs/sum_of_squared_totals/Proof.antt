@@ -6,7 +6,7 @@ use lib.IntN.{natAbs}
 use Rattle.meaning.specs.Analysis.{squaredTotals}
 use Rattle.meaning.specs.Refusals.{_⨾_, accepted, clean}
 use Rattle.meaning.specs.Calls.{slices}
-use Rattle.readings.proofs.Answers.{square-refused}
+use Rattle.squares.proofs.Answers.{square-refused}
 use Rattle.totals.proofs.Refusing.{words-long, lay, reached, squared-refused, squared-weighed}
 use Rattle.totals.proofs.sum_of_squared_totals.Statement.{statement}
 use Rattle.totals.proofs.sum_of_squared_totals.Tie as tie

@@ -10,7 +10,7 @@ use mir.Val.{toZ}
 use Rattle.algebra.proofs.Order.{sq-nonneg}
 use Rattle.algebra.proofs.Sums.{sumℕ-none}
 use Rattle.algebra.proofs.Numbers.{Num, number, times, times-fits, cast-fits}
-use Rattle.readings.proofs.Squares.{squares, squares-most, squares-more, square-cast}
+use Rattle.squares.proofs.Squares.{squares, squares-most, squares-more, square-cast}
 use Rattle.weighing.proofs.squared_totals.Statement.{statement}
 use Rattle.weighing.proofs.squared_totals.Tie as tie
 

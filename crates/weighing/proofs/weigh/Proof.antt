@@ -13,8 +13,8 @@ use Rattle.records.specs.declared.Verdict.{Verdict}
 use Rattle.meaning.specs.Design.{objects, blocks}
 use Rattle.meaning.specs.Refusals.{accepted}
 use Rattle.laws.proofs.Chains.{given-yes, given-no}
-use Rattle.readings.proofs.Squares.{squares}
-use Rattle.readings.proofs.Answers.{square-refused, square-accepted}
+use Rattle.squares.proofs.Squares.{squares}
+use Rattle.squares.proofs.Answers.{square-refused, square-accepted}
 use Rattle.weighing.specs.Developed.{totalIn, squaredTotalsIn}
 use Rattle.weighing.specs.Verdicts.{weighVerdict}
 use Rattle.weighing.proofs.Developing.{filled-most, filled-squares}

@@ -15,8 +15,8 @@ use Rattle.algebra.specs.Ranges.{firstFrom}
 use Rattle.algebra.proofs.Tests.{first-here, first-on, first-end}
 use Rattle.meaning.specs.Analysis.{reading}
 use Rattle.meaning.specs.Refusals.{farReading}
-use Rattle.readings.proofs.far_reading.Statement.{statement}
-use Rattle.readings.proofs.far_reading.Tie as tie
+use Rattle.reach.proofs.far_reading.Statement.{statement}
+use Rattle.reach.proofs.far_reading.Tie as tie
 
 abbrev Inv-loop : tie.InvT-loop
 Inv-loop readings k₀ k = (k ≤ length readings) × (farReading readings ≡ firstFrom (λ j. ltb 200000 (natAbs (reading readings j))) k (length readings - k))

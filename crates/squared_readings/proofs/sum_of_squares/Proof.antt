@@ -11,10 +11,10 @@ use Rattle.meaning.specs.Design.{sized, blocks}
 use Rattle.meaning.specs.Refusals.{accepted, inReach}
 use Rattle.meaning.specs.Calls.{squaredReadingsVerdict}
 use Rattle.laws.proofs.Chains.{fits, readings-near}
-use Rattle.readings.proofs.Squares.{readings-squares}
-use Rattle.readings.proofs.Answers.{square-refused, square-accepted}
-use Rattle.readings.proofs.sum_of_squares.Statement.{statement}
-use Rattle.readings.proofs.sum_of_squares.Tie as tie
+use Rattle.squares.proofs.Squares.{readings-squares}
+use Rattle.squares.proofs.Answers.{square-refused, square-accepted}
+use Rattle.squared_readings.proofs.sum_of_squares.Statement.{statement}
+use Rattle.squared_readings.proofs.sum_of_squares.Tie as tie
 
 -- past the first test the sizes hold
 passed : (c : tie.Else1) → sized (c .before .before .args .head) ≡ true

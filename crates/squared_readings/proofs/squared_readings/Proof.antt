@@ -10,9 +10,9 @@ use mir.Val.{SFits, toZ}
 use Rattle.algebra.proofs.Order.{sq-nonneg}
 use Rattle.algebra.proofs.Sums.{sumℕ-none}
 use Rattle.algebra.proofs.Numbers.{Num, widened, widened-fits, times, times-fits, cast-fits}
-use Rattle.readings.proofs.Squares.{squares, squares-most, squares-more, square-cast}
-use Rattle.readings.proofs.squared_readings.Statement.{statement}
-use Rattle.readings.proofs.squared_readings.Tie as tie
+use Rattle.squares.proofs.Squares.{squares, squares-most, squares-more, square-cast}
+use Rattle.squared_readings.proofs.squared_readings.Statement.{statement}
+use Rattle.squared_readings.proofs.squared_readings.Tie as tie
 
 abbrev Inv-loop : tie.InvT-loop
 Inv-loop readings b sum₀ k₀ sum k = (k ≤ b) × (sum ≡ squares readings k)

@@ -3,8 +3,8 @@ use mathlib.Core.Path.{sym}
 use borrow.Author.Tests.{lt-ltb, le-ltb}
 use mir.Facts.{toZ-ofZ}
 use Rattle.algebra.proofs.Signs.{too-low, too-high, between}
-use Rattle.readings.proofs.is_far.Statement.{statement}
-use Rattle.readings.proofs.is_far.Tie as tie
+use Rattle.reach.proofs.is_far.Statement.{statement}
+use Rattle.reach.proofs.is_far.Tie as tie
 
 returns : tie.Need-returns
 returns c = sym (lt-ltb _ _ (too-low (c .before .args .y) 199999 (search (rw (toZ-ofZ (c .before .fits .y)) at (c .if1 .taken)))))

@@ -1,8 +1,8 @@
 -- `reach_refusal`: by whether the search came to the end. Assumes nothing.
 use borrow.Author.Needs.{needs}
 use borrow.Author.Tests.{eq-eqb, ne-eqb}
-use Rattle.readings.proofs.reach_refusal.Statement.{statement}
-use Rattle.readings.proofs.reach_refusal.Tie as tie
+use Rattle.reach.proofs.reach_refusal.Statement.{statement}
+use Rattle.reach.proofs.reach_refusal.Tie as tie
 
 returns : tie.Need-returns
 returns c = rw (← (c .before .far-reading .ensures), ne-eqb _ _ (c .if1 .taken)) (search needs)

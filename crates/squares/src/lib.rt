@@ -1,0 +1,16 @@
+// What a sum of squares hands back where it is refused. The laws of such sums stand in proofs/.
+use records::SquareSum;
+use records::Verdict;
+ghost use mathlib.Core.Path.{_≡_};
+ghost use Rattle.meaning.specs.Refusals.{refused};
+ghost use Rattle.meaning.specs.Calls.{squareSum};
+
+// What a refused sum hands back.
+pub fn no_sum(number: u8, at: usize) -> SquareSum
+    ensures { λ r. ⌜ r ≡ squareSum (refused number at) 0 ⌝ }
+{
+    SquareSum {
+        verdict: Verdict::Refused(number, at),
+        sum: 0,
+    }
+}

@@ -76,7 +76,7 @@ fn add_company(side: u64, i: usize, row: &mut [u64; 50])
     let mut rest = side;
     let mut companion = words::lowest(rest);
     while companion < 64 {
-        row[companion] += words::in_company(side, i, companion);
+        row[companion] += sides::in_company(side, i, companion);
         rest = words::without_lowest(rest);
         companion = words::lowest(rest);
     }
@@ -90,7 +90,7 @@ fn add_opposition(own: u64, other: u64, i: usize, row: &mut [u64; 50])
     let mut rest = other;
     let mut opponent = words::lowest(rest);
     while opponent < 64 {
-        row[opponent] += words::in_opposition(own, other, i, opponent);
+        row[opponent] += sides::in_opposition(own, other, i, opponent);
         rest = words::without_lowest(rest);
         opponent = words::lowest(rest);
     }

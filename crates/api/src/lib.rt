@@ -1,12 +1,12 @@
 // The bench for programs in C and Rust. Each exported function is one call of the bench: its refusal number is handed back, 0 where it accepts, and the rest of its
 // answer is laid into lent slots, as far as there are slots. hosts/bench.h says what stands in each.
+use laying::number;
+use laying::put_spread;
+use lengths::lay_listed;
+use lengths::lay_written;
 use records::Head;
 use slots::lay_judged;
-use slots::lay_listed;
 use slots::lay_solved;
-use slots::lay_written;
-use slots::number;
-use slots::put_spread;
 ghost use mathlib.Core.Path.{_≡_};
 ghost use lib.ListN.{length};
 ghost use Rattle.algebra.specs.Buffers.{over};
@@ -16,7 +16,9 @@ ghost use Rattle.meaning.specs.Writing.{writtenAnswer, writtenAfter};
 ghost use Rattle.meaning.specs.Publishing.{spreadValue};
 ghost use Rattle.meaning.specs.Text.{listedAnswer, listedAfter};
 ghost use Rattle.meaning.specs.Refusals.{number};
-ghost use Rattle.slots.specs.Slots.{laid, judgedSlots, solvedSlots, writtenSlots, listedSlots};
+ghost use Rattle.laying.specs.Laid.{laid};
+ghost use Rattle.slots.specs.Slots.{judgedSlots, solvedSlots};
+ghost use Rattle.lengths.specs.Lengths.{writtenSlots, listedSlots};
 ghost use Rattle.api.specs.Solving.{solvedOf};
 
 // Judges a design: n residues, flag, p objects a side, m initial blocks.

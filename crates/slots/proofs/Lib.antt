@@ -1,3 +1,2 @@
--- What laying slots rests on, and what the promises rule out.
-pub mod Laying
+-- What the promises rule out.
 pub mod Determined

@@ -1,2 +1,2 @@
--- What stands in the slots of an answer.
+-- What stands in the slots of a judgement and of a job worked out.
 pub mod Slots

@@ -5,7 +5,8 @@ use denote.Ref.{now}
 use Rattle.records.specs.declared.Judged.{Judged}
 use Rattle.meaning.specs.Refusals.{number}
 use Rattle.meaning.specs.Calls.{judged}
-use Rattle.slots.specs.Slots.{laid, judgedSlots}
+use Rattle.laying.specs.Laid.{laid}
+use Rattle.slots.specs.Slots.{judgedSlots}
 use Rattle.api.proofs.bench_judge.Statement.{statement}
 use Rattle.api.proofs.bench_judge.Tie as tie
 

@@ -5,7 +5,8 @@ use lib.ListN.{length}
 use Rattle.records.specs.declared.Listed.{Listed}
 use Rattle.meaning.specs.Refusals.{number}
 use Rattle.meaning.specs.Text.{listedAnswer}
-use Rattle.slots.specs.Slots.{laid, listedSlots}
+use Rattle.laying.specs.Laid.{laid}
+use Rattle.lengths.specs.Lengths.{listedSlots}
 use borrow.Author.Needs.{needs}
 use Rattle.api.proofs.bench_listing.Statement.{statement}
 use Rattle.api.proofs.bench_listing.Tie as tie

@@ -6,7 +6,8 @@ use Rattle.algebra.specs.Buffers.{over}
 use Rattle.records.specs.declared.Solved.{Solved}
 use Rattle.meaning.specs.Publishing.{spreadValue}
 use Rattle.meaning.specs.Refusals.{number}
-use Rattle.slots.specs.Slots.{laid, solvedSlots}
+use Rattle.laying.specs.Laid.{laid}
+use Rattle.slots.specs.Slots.{solvedSlots}
 use Rattle.api.specs.Solving.{solvedOf}
 use borrow.Author.Needs.{needs}
 use Rattle.api.proofs.bench_solve.Statement.{statement}

@@ -8,7 +8,8 @@ use Rattle.records.specs.declared.Head.{Head}
 use Rattle.records.specs.declared.JobWritten.{JobWritten}
 use Rattle.meaning.specs.Refusals.{number}
 use Rattle.meaning.specs.Writing.{writtenAnswer, writtenAfter}
-use Rattle.slots.specs.Slots.{laid, writtenSlots}
+use Rattle.laying.specs.Laid.{laid}
+use Rattle.lengths.specs.Lengths.{writtenSlots}
 use Rattle.api.proofs.bench_write.Statement.{statement}
 use Rattle.api.proofs.bench_write.Tie as tie
 

@@ -3,7 +3,7 @@ use mathlib.Core.Path.{_≡_, _∙_}
 use mathlib.Core.List.{[], _∷_}
 use borrow.Author.Needs.{needs}
 use denote.Ref.{now}
-use Rattle.slots.specs.Slots.{laid}
+use Rattle.laying.specs.Laid.{laid}
 use Rattle.slots.proofs.lay_judged.Statement.{statement}
 use Rattle.slots.proofs.lay_judged.Tie as tie
 

@@ -1,11 +1,11 @@
--- `slots::lay_written` meets its contract: the first slot comes from a call, the other is a field. Assumes nothing.
+-- `lengths::lay_written` meets its contract: the first slot comes from a call, the other is a field. Assumes nothing.
 use mathlib.Core.Path.{_≡_, _∙_}
 use mathlib.Core.List.{[], _∷_}
 use borrow.Author.Needs.{needs}
 use denote.Ref.{now}
-use Rattle.slots.specs.Slots.{laid}
-use Rattle.slots.proofs.lay_written.Statement.{statement}
-use Rattle.slots.proofs.lay_written.Tie as tie
+use Rattle.laying.specs.Laid.{laid}
+use Rattle.lengths.proofs.lay_written.Statement.{statement}
+use Rattle.lengths.proofs.lay_written.Tie as tie
 
 returns : tie.Need-returns
 returns c =

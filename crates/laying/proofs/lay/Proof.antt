@@ -1,14 +1,14 @@
--- `slots::lay` meets its contract: after i turns the first i slots lie over the answer. Assumes nothing.
+-- `laying::lay` meets its contract: after i turns the first i slots lie over the answer. Assumes nothing.
 use Prim.Native.Nat.{ℕ, _-_, _≤_}
 use mathlib.Core.Path.{_≡_, refl, _∙_}
 use lib.ListN.{length, getD}
 use Rattle.algebra.specs.Buffers.{over}
 use Rattle.algebra.proofs.Filling.{over-none, over-end}
-use Rattle.slots.proofs.Laying.{over-next}
+use Rattle.laying.proofs.Laying.{over-next}
 use native.Mathlib.Omega.{arith}
 use borrow.Author.Needs.{needs}
-use Rattle.slots.proofs.lay.Statement.{statement}
-use Rattle.slots.proofs.lay.Tie as tie
+use Rattle.laying.proofs.lay.Statement.{statement}
+use Rattle.laying.proofs.lay.Tie as tie
 
 abbrev Inv-loop : tie.InvT-loop
 Inv-loop slots answer₀ i₀ i-end answer i = (i ≤ length slots) × (length answer ≡ length answer₀) × (answer ≡ over i (λ (k : ℕ). getD slots k 0) answer₀)

@@ -1,10 +1,10 @@
--- `slots::put` meets its contract: past the end nothing is stored, and `set` stores nothing there. Assumes nothing.
+-- `laying::put` meets its contract: past the end nothing is stored, and `set` stores nothing there. Assumes nothing.
 use mathlib.Core.Path.{sym}
 use lib.Seq.{set-out}
 use native.Mathlib.Omega.{arith}
 use borrow.Author.Needs.{needs}
-use Rattle.slots.proofs.put.Statement.{statement}
-use Rattle.slots.proofs.put.Tie as tie
+use Rattle.laying.proofs.put.Statement.{statement}
+use Rattle.laying.proofs.put.Tie as tie
 
 returns-2 : tie.Need-returns-2
 returns-2 c = sym (set-out _ _ _ (omega arith))

@@ -16,10 +16,10 @@ pub fn put_value(
     ensures { λ r. ⌜ Wrote (now (out .entry)) at (valueLine object numerator denominator hundredths) (now (out .exit)) r ⌝ }
 {
     let a = printing::put_text(out, at, b"value");
-    let a1 = printing::put_number(out, a, object as u64);
-    let a2 = printing::put_signed(out, a1, numerator);
-    let a3 = printing::put_number(out, a2, denominator);
-    let a4 = printing::put_signed(out, a3, hundredths);
+    let a1 = decimals::put_number(out, a, object as u64);
+    let a2 = decimals::put_signed(out, a1, numerator);
+    let a3 = decimals::put_number(out, a2, denominator);
+    let a4 = decimals::put_signed(out, a3, hundredths);
     printing::put_byte(out, a4, 10)
 }
 
@@ -34,9 +34,9 @@ pub fn put_deviation(
     ensures { λ r. ⌜ Wrote (now (out .entry)) at (devLine block numerator denominator) (now (out .exit)) r ⌝ }
 {
     let a = printing::put_text(out, at, b"dev");
-    let a1 = printing::put_number(out, a, block as u64);
-    let a2 = printing::put_signed(out, a1, numerator);
-    let a3 = printing::put_number(out, a2, denominator);
+    let a1 = decimals::put_number(out, a, block as u64);
+    let a2 = decimals::put_signed(out, a1, numerator);
+    let a3 = decimals::put_number(out, a2, denominator);
     printing::put_byte(out, a3, 10)
 }
 
@@ -45,7 +45,7 @@ fn put_last(out: &mut [u8], at: usize, spread: Spread, hundredths: u64) -> usize
     ensures { λ r. ⌜ Wrote (now (out .entry)) at (lastWord spread hundredths) (now (out .exit)) r ⌝ }
 {
     match spread {
-        Spread::Of(_, _) => printing::put_number(out, at, hundredths),
+        Spread::Of(_, _) => decimals::put_number(out, at, hundredths),
         Spread::None => printing::put_text(out, at, b" none"),
     }
 }
@@ -55,9 +55,9 @@ pub fn put_spread(out: &mut [u8], at: usize, spreading: Spreading) -> usize
     ensures { λ r. ⌜ Wrote (now (out .entry)) at (spreadLine spreading) (now (out .exit)) r ⌝ }
 {
     let a = printing::put_text(out, at, b"spread");
-    let a1 = printing::put_number(out, a, spreading.q);
-    let a2 = printing::put_number(out, a1, spreading.vbeta);
-    let a3 = printing::put_number(out, a2, spreading.freedom);
+    let a1 = decimals::put_number(out, a, spreading.q);
+    let a2 = decimals::put_number(out, a1, spreading.vbeta);
+    let a3 = decimals::put_number(out, a2, spreading.freedom);
     let spread = spreading.spread;
     let a4 = put_last(out, a3, spread, spreading.hundredths);
     printing::put_byte(out, a4, 10)

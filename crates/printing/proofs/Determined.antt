@@ -13,12 +13,6 @@ use Rattle.printing.proofs.put_byte.Reads as put-byte-reads
 use Rattle.printing.proofs.put_text as put-text
 use Rattle.printing.proofs.put_text.Kinds as put-text-kinds
 use Rattle.printing.proofs.put_text.Reads as put-text-reads
-use Rattle.printing.proofs.put_number as put-number
-use Rattle.printing.proofs.put_number.Kinds as put-number-kinds
-use Rattle.printing.proofs.put_number.Reads as put-number-reads
-use Rattle.printing.proofs.put_signed as put-signed
-use Rattle.printing.proofs.put_signed.Kinds as put-signed-kinds
-use Rattle.printing.proofs.put_signed.Reads as put-signed-reads
 
 -- of `put_byte`
 module _ (κs : Lfts 1) (a : ArgsD put-byte.signature κs) (r q : ResD put-byte.signature κs) (s t : AtExit (endedOf 1 put-byte-kinds.ps put-byte-kinds.r) κs) where
@@ -29,13 +23,3 @@ module _ (κs : Lfts 1) (a : ArgsD put-byte.signature κs) (r q : ResD put-byte.
 module _ (κs : Lfts 2) (a : ArgsD put-text.signature κs) (r q : ResD put-text.signature κs) (s t : AtExit (endedOf 2 put-text-kinds.ps put-text-kinds.r) κs) where
   pub put-text-determined : put-text-reads.Post κs a r s → put-text-reads.Post κs a q t → (now (s .0) ≡ now (t .0)) × (r ≡ q)
   put-text-determined p e = wrote-determines p e
-
--- of `put_number`
-module _ (κs : Lfts 1) (a : ArgsD put-number.signature κs) (r q : ResD put-number.signature κs) (s t : AtExit (endedOf 1 put-number-kinds.ps put-number-kinds.r) κs) where
-  pub put-number-determined : put-number-reads.Post κs a r s → put-number-reads.Post κs a q t → (now (s .0) ≡ now (t .0)) × (r ≡ q)
-  put-number-determined p e = wrote-determines p e
-
--- of `put_signed`
-module _ (κs : Lfts 1) (a : ArgsD put-signed.signature κs) (r q : ResD put-signed.signature κs) (s t : AtExit (endedOf 1 put-signed-kinds.ps put-signed-kinds.r) κs) where
-  pub put-signed-determined : put-signed-reads.Post κs a r s → put-signed-reads.Post κs a q t → (now (s .0) ≡ now (t .0)) × (r ≡ q)
-  put-signed-determined p e = wrote-determines p e

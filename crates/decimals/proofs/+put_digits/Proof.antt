@@ -1,17 +1,17 @@
--- `printing::put_digits` meets its contract. It calls itself on a tenth, as `digits` does; the measure is n. Assumes nothing.
+-- `decimals::put_digits` meets its contract. It calls itself on a tenth, as `digits` does; the measure is n. Assumes nothing.
 use Prim.Native.Nat.{ℕ, _<_}
 use native.Mathlib.Omega.{arith}
 use borrow.Author.Needs.{needs}
 use borrow.Fn.Kinds.{In}
 use borrow.Fn.PlainCycle.{Measures, is, falls, and}
 use Rattle.algebra.proofs.Writing.{_then_, named}
-use Rattle.printing.proofs.Digits.{digits-one, digits-more}
-use Rattle.printing.proofs.put_digits.Reads as put-digits
-use Rattle.printing.proofs.put_digits.Kinds as put-digits-kinds
-use Rattle.printing.proofs.+put_digits.Lts-put_digits as put-digits-lts
+use Rattle.decimals.proofs.Digits.{digits-one, digits-more}
+use Rattle.decimals.proofs.put_digits.Reads as put-digits
+use Rattle.decimals.proofs.put_digits.Kinds as put-digits-kinds
+use Rattle.decimals.proofs.+put_digits.Lts-put_digits as put-digits-lts
 use Rattle.printing.proofs.put_byte.Reads as put-byte-reads
-use Rattle.printing.proofs.+put_digits.{statement}
-use Rattle.printing.proofs.+put_digits.Tie.{close}
+use Rattle.decimals.proofs.+put_digits.{statement}
+use Rattle.decimals.proofs.+put_digits.Tie.{close}
 
 abbrev μ-put-digits : Measures 1 put-digits-kinds.ps ℕ
 μ-put-digits κs a = a .1 .1 .0

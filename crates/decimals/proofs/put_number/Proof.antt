@@ -1,8 +1,8 @@
--- `printing::put_number` meets its contract: a space, then the digits. Assumes nothing.
+-- `decimals::put_number` meets its contract: a space, then the digits. Assumes nothing.
 use Rattle.algebra.proofs.Writing.{_then_, named}
 use borrow.Author.Needs.{needs}
-use Rattle.printing.proofs.put_number.Statement.{statement}
-use Rattle.printing.proofs.put_number.Tie as tie
+use Rattle.decimals.proofs.put_number.Statement.{statement}
+use Rattle.decimals.proofs.put_number.Tie as tie
 
 returns : tie.Need-returns
 returns c =

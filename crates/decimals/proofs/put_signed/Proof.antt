@@ -1,13 +1,13 @@
--- `printing::put_signed` meets its contract: the size that is printed is that of x, in both arms. Assumes nothing.
+-- `decimals::put_signed` meets its contract: the size that is printed is that of x, in both arms. Assumes nothing.
 use mathlib.Core.Path.{_≡_, sym, ap, _∙_}
 use lib.IntN.{natAbs}
 use mir.Facts.{toZ-ofZ}
 use Rattle.algebra.proofs.Signs.{plain}
 use Rattle.algebra.proofs.Writing.{_then_, named}
-use Rattle.printing.proofs.Signed.{signed-below, signed-above}
+use Rattle.decimals.proofs.Signed.{signed-below, signed-above}
 use borrow.Author.Needs.{needs}
-use Rattle.printing.proofs.put_signed.Statement.{statement}
-use Rattle.printing.proofs.put_signed.Tie as tie
+use Rattle.decimals.proofs.put_signed.Statement.{statement}
+use Rattle.decimals.proofs.put_signed.Tie as tie
 
 module _ (c : tie.After-magnitude) where
   abbrev start : tie.Start

@@ -1,4 +1,4 @@
--- `printing::magnitude` meets its contract: for x below 0, `!x` is one less than its size. Assumes nothing.
+-- `decimals::magnitude` meets its contract: for x below 0, `!x` is one less than its size. Assumes nothing.
 use mathlib.Core.Path.{_≡_}
 use mathlib.Core.Bool.{true}
 use Prim.Native.Nat.{_-_, _^_}
@@ -10,8 +10,8 @@ use mir.Syntax.{w64}
 use mir.Val.{toZ, ofZ}
 use mir.Facts.{toZ-ofZ}
 use Rattle.algebra.proofs.Signs.{plain, not-below, size-below, flipped, size-fits}
-use Rattle.printing.proofs.magnitude.Statement.{statement}
-use Rattle.printing.proofs.magnitude.Tie as tie
+use Rattle.decimals.proofs.magnitude.Statement.{statement}
+use Rattle.decimals.proofs.magnitude.Tie as tie
 
 module _ (c : tie.Then1) where
   below : ltZ (c .before .args .x) (pos 0) ≡ true

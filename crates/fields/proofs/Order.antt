@@ -1,29 +1,19 @@
--- The verdict of the fields, by the first test that refuses, or by none; and how far the places reach where the sizes fit. Assumes nothing.
-use Prim.Native.Nat.{ℕ, _+_, _-_, _*_, _≤_}
+-- The verdict of the fields, by the first test that refuses, or by none. Assumes nothing.
+use Prim.Native.Nat.{ℕ, _+_, _-_, _*_}
 use mathlib.Core.Path.{_≡_}
 use mathlib.Core.List.{List}
 use native.Mathlib.Omega.{arith}
 use borrow.Author.Tests.{eq-eqb, ne-eqb}
-use lib.ListN.{length, getD}
-use Rattle.records.specs.declared.Head.{Head}
+use lib.ListN.{length}
 use Rattle.meaning.specs.Design.{blocks, sized, listLength}
 use Rattle.meaning.specs.Refusals.{accepted, refused, _⨾_, sizes}
 use Rattle.meaning.specs.File.{fieldVerdict, headOf, secondAt, thirdAt, fourthAt, endAt, fields}
 use Rattle.laws.specs.Fits.{Fits}
-use Rattle.laws.proofs.Chains.{opened, held, fits, listed-most}
-
--- a head of the four bytes of the first field is the file's
-pub head-is : (s : List ℕ) (n flag p m : ℕ) → n ≡ getD s 3 0 → flag ≡ getD s 4 0 → p ≡ getD s 5 0 → m ≡ getD s 6 0
-    → _≡_ {A = Head} (record { n = n; flag = flag; p = p; m = m }) (headOf s)
-head-is s n flag p m a b c d = rw (a, b, c, d)
+use Rattle.laws.proofs.Chains.{opened, held, fits}
 
 -- an accepted head fits the sizes
 pub head-fits : (s : List ℕ) → fieldVerdict s 0 1 4 ⨾ sizes (headOf s) ≡ accepted → Fits (headOf s)
 head-fits s e = fits (headOf s) (held (sized (headOf s)) 4 0 (opened (fieldVerdict s 0 1 4) (sizes (headOf s)) e .1))
-
--- where the sizes fit, the third field starts within 3210 bytes
-pub third-most : (s : List ℕ) → Fits (headOf s) → thirdAt s ≤ 3210
-third-most s f = omega (arith, listed-most (headOf s) f)
 
 -- where the third field starts tells the rest
 module _ (s : List ℕ) (third : ℕ) (starts : third ≡ thirdAt s) where

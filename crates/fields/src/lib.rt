@@ -1,14 +1,14 @@
-// The four fields of a job file: their refusals in file order, the sizes that the first tells, and the places that follow from these.
+// The four fields of a job file: their refusals in file order, the sizes that the first tells right after it.
+use bodies::block_count;
+use bodies::head_of;
+use bodies::third_at;
 use design::sized;
-use numbers::byte;
 use reader::take;
 use records::Field;
-use records::Head;
 use records::Verdict;
 ghost use mathlib.Core.Path.{_≡_};
-ghost use Rattle.meaning.specs.Design.{blocks};
 ghost use Rattle.meaning.specs.Refusals.{_⨾_, sizes};
-ghost use Rattle.meaning.specs.File.{fieldVerdict, headOf, thirdAt, fields};
+ghost use Rattle.meaning.specs.File.{fieldVerdict, headOf, fields};
 
 // The four fields and the end of the file; the sizes right after the first.
 pub fn fields_refusal(bytes: &[u8]) -> Verdict
@@ -34,36 +34,6 @@ pub fn fields_refusal(bytes: &[u8]) -> Verdict
         return Verdict::Refused(9, end);
     }
     Verdict::Accepted
-}
-
-// The four sizes, in the bytes of the first field's body.
-pub fn head_of(bytes: &[u8]) -> Head
-    ensures { λ r. ⌜ r ≡ headOf (now (bytes .entry)) ⌝ }
-{
-    Head {
-        n: byte(bytes, 3) as usize,
-        flag: byte(bytes, 4) as usize,
-        p: byte(bytes, 5) as usize,
-        m: byte(bytes, 6) as usize,
-    }
-}
-
-// Where the third field starts. A size is a byte, so that no place wraps.
-pub fn third_at(bytes: &[u8]) -> usize
-    ensures { λ r. ⌜ r ≡ thirdAt (now (bytes .entry)) ⌝ }
-{
-    let p = byte(bytes, 5) as usize;
-    let m = byte(bytes, 6) as usize;
-    10 + 2 * p * m
-}
-
-// The number of blocks, and of readings.
-pub fn block_count(bytes: &[u8]) -> usize
-    ensures { λ r. ⌜ r ≡ blocks (headOf (now (bytes .entry))) ⌝ }
-{
-    let m = byte(bytes, 6) as usize;
-    let n = byte(bytes, 3) as usize;
-    m * n
 }
 
 // The first field and the sizes that it tells.

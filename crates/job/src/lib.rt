@@ -1,8 +1,8 @@
 // A job file as a whole: its four fields and what they hold, refused in the request's order, and what an accepted one holds.
-use fields::block_count;
+use bodies::block_count;
+use bodies::head_of;
+use bodies::third_at;
 use fields::fields_refusal;
-use fields::head_of;
-use fields::third_at;
 use places::moved;
 use places::set_of;
 use places::sum_of;

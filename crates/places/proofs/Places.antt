@@ -23,7 +23,7 @@ use Rattle.meaning.specs.File.{headOf, thirdAt, readingsAt, blocksOf, readingsO
 use Rattle.places.specs.Moved.{placeLimit, movedIn}
 use Rattle.laws.proofs.Chains.{fits, listed-most}
 use Rattle.laws.proofs.Files.{numbers-long, filed, blocks-long}
-use Rattle.fields.proofs.Order.{third-most}
+use Rattle.bodies.proofs.Starts.{third-most}
 
 -- ---- how large a place is
 

@@ -1,5 +1,5 @@
 // Places in a job file: its restraint, read from where it stands, and a direct call's refusal moved to its own place. Each for any bytes.
-use fields::third_at;
+use bodies::third_at;
 use numbers::eight_bytes;
 use records::Verdict;
 use signed::signed_64;

@@ -1,9 +1,9 @@
 // A job file worked out into lent room: refused in the request's order, or all that follows from what it holds.
 use analysis::analyse;
-use fields::block_count;
+use bodies::block_count;
+use bodies::head_of;
+use bodies::third_at;
 use fields::fields_refusal;
-use fields::head_of;
-use fields::third_at;
 use places::moved;
 use places::set_of;
 use places::sum_of;

@@ -8,7 +8,8 @@ use denote.Ref.{now}
 use Rattle.meaning.specs.Design.{blocks, listLength}
 use Rattle.meaning.specs.Refusals.{accepted, refused, _⨾_, sizes}
 use Rattle.meaning.specs.File.{fieldVerdict, headOf, secondAt, thirdAt, fourthAt}
-use Rattle.fields.proofs.Order.{head-fits, third-most, second-field, third-field, fourth-field, head-refuses, second-refuses, third-refuses, fourth-refuses, more-refuses, fields-accept}
+use Rattle.bodies.proofs.Starts.{third-most}
+use Rattle.fields.proofs.Order.{head-fits, second-field, third-field, fourth-field, head-refuses, second-refuses, third-refuses, fourth-refuses, more-refuses, fields-accept}
 use Rattle.fields.proofs.fields_refusal.Statement.{statement}
 use Rattle.fields.proofs.fields_refusal.Tie as tie
 

@@ -1,10 +1,10 @@
--- `fields::head_of` meets its contract: each size is the byte at its place.
+-- `bodies::head_of` meets its contract: each size is the byte at its place.
 -- Assumes nothing.
 use borrow.Author.Needs.{needs}
 use denote.Ref.{now}
-use Rattle.fields.proofs.Order.{head-is}
-use Rattle.fields.proofs.head_of.Statement.{statement}
-use Rattle.fields.proofs.head_of.Tie as tie
+use Rattle.bodies.proofs.Starts.{head-is}
+use Rattle.bodies.proofs.head_of.Statement.{statement}
+use Rattle.bodies.proofs.head_of.Tie as tie
 
 returns : tie.Need-returns
 returns c = head-is (now (c .before .before .before .before .before .args .bytes)) _ _ _ _ (search needs) (search needs) (search needs) (search needs)

@@ -1,11 +1,11 @@
--- `fields::block_count` meets its contract: two bytes are at most 255 each, and so their product fits.
+-- `bodies::block_count` meets its contract: two bytes are at most 255 each, and so their product fits.
 -- Assumes nothing.
 use Prim.Native.Nat.{_*_, _≤_}
 use native.Mathlib.Nat.{mul-le-mul}
 use native.Mathlib.Omega.{arith}
 use borrow.Author.Needs.{needs}
-use Rattle.fields.proofs.block_count.Statement.{statement}
-use Rattle.fields.proofs.block_count.Tie as tie
+use Rattle.bodies.proofs.block_count.Statement.{statement}
+use Rattle.bodies.proofs.block_count.Tie as tie
 
 -- the two factors
 factors : (c : tie.After-byte2) → c .before .byte .result * c .byte2 .result ≤ 255 * 255

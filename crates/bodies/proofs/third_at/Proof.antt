@@ -1,11 +1,11 @@
--- `fields::third_at` meets its contract: two bytes are at most 255 each, and so their product fits.
+-- `bodies::third_at` meets its contract: two bytes are at most 255 each, and so their product fits.
 -- Assumes nothing.
 use Prim.Native.Nat.{_*_, _≤_}
 use native.Mathlib.Nat.{mul-le-mul}
 use native.Mathlib.Omega.{arith}
 use borrow.Author.Needs.{needs}
-use Rattle.fields.proofs.third_at.Statement.{statement}
-use Rattle.fields.proofs.third_at.Tie as tie
+use Rattle.bodies.proofs.third_at.Statement.{statement}
+use Rattle.bodies.proofs.third_at.Tie as tie
 
 -- the two factors
 factors : (c : tie.After-byte2) → 2 * c .before .byte .result * c .byte2 .result ≤ 510 * 255

@@ -1,0 +1,3 @@
+-- Where the fields start, and what the promises determine.
+pub mod Starts
+pub mod Determined

@@ -11,23 +11,12 @@ use Rattle.algebra.specs.Buffers.{Wrote}
 use Rattle.algebra.proofs.Writing.{counts, in-front}
 use Rattle.records.specs.declared.Head.{Head}
 use Rattle.records.specs.declared.JobWritten.{JobWritten}
-use Rattle.meaning.specs.Design.{blocks, listLength}
 use Rattle.meaning.specs.Refusals.{accepted, refused, room}
 use Rattle.meaning.specs.Calls.{jobVerdict}
 use Rattle.meaning.specs.Writing.{fileOf, fileLength, writeVerdict, writtenAnswer, writtenAfter}
-use Rattle.laws.specs.Fits.{Fits}
-use Rattle.laws.proofs.Chains.{opened, held, job}
+use Rattle.laws.proofs.Chains.{opened, held}
 use Rattle.laws.proofs.Writing.{file-length}
-
--- the sizes fit, and the slices have the lengths that go with them
-abbrev pub Laid : Head → List ℕ → List ℤ → Type 0
-Laid h d y = (Fits h) × (length d ≡ listLength h) × (length y ≡ blocks h)
-
--- so it is in an accepted job
-pub laid : (h : Head) (d : List ℕ) (y : List ℤ) (w : ℕ) (M : ℤ) → jobVerdict h d y w M ≡ accepted → Laid h d y
-laid h d y w M e =
-    let measures = job h d y w M e .measures in
-    (measures .design .sizes, measures .design .long, measures .readings .readings-long)
+use Rattle.writable.proofs.Slices.{Laid, laid}
 
 module _ (h : Head) (d : List ℕ) (y : List ℤ) (w : ℕ) (M : ℤ) (out : List ℕ) where
   -- the answer and the room after are those of writing

@@ -6,16 +6,14 @@ use printing::put_text;
 use records::Head;
 use records::JobWritten;
 use records::Verdict;
-use refusals::refusal;
+use writable::write_refusal;
 ghost use mathlib.Core.Path.{_≡_};
 ghost use Prim.Native.Nat.{_*_};
 ghost use lib.ListN.{length};
 ghost use Rattle.algebra.specs.Buffers.{Wrote};
 ghost use Rattle.laws.specs.Fits.{Fits};
 ghost use Rattle.meaning.specs.Design.{listLength};
-ghost use Rattle.meaning.specs.Refusals.{_⨾_, room};
-ghost use Rattle.meaning.specs.Calls.{jobVerdict};
-ghost use Rattle.meaning.specs.Writing.{fieldBytes, sizesBody, fileOf, fileLength, writtenAnswer, writtenAfter};
+ghost use Rattle.meaning.specs.Writing.{fieldBytes, sizesBody, fileOf, writtenAnswer, writtenAfter};
 
 // Writes the file of a job to the front of `out`, whose other bytes stay. A refusal writes nothing.
 pub fn write(
@@ -35,27 +33,6 @@ pub fn write(
         length = put_file(out, head, blocks, set, sum, readings);
     }
     JobWritten { verdict, length }
-}
-
-// Why nothing is written, or that the job is accepted and `space` bytes are enough. The room is looked at last: then the lists have the lengths that go with the sizes.
-fn write_refusal(
-    head: Head,
-    blocks: &[u8],
-    set: u64,
-    sum: i64,
-    readings: &[i32],
-    space: usize,
-) -> Verdict
-    ensures { λ r. ⌜ r ≡ jobVerdict head (now (blocks .entry)) (now (readings .entry)) set sum ⨾ room space (fileLength head) ⌝ }
-{
-    let verdict = refusal(head, blocks, readings, set, sum);
-    if let Verdict::Accepted = verdict {
-        let length = 32 + blocks.len() + 4 * readings.len();
-        if space < length {
-            return Verdict::Refused(10, 0);
-        }
-    }
-    verdict
 }
 
 // The four fields from the front on, as far as there is room.

@@ -8,7 +8,8 @@ use mir.Facts.{toZ-ofZ}
 use Rattle.records.specs.declared.Verdict.{Verdict}
 use Rattle.meaning.specs.Refusals.{accepted}
 use Rattle.meaning.specs.Writing.{writeVerdict}
-use Rattle.writing.proofs.Answers.{Laid, unwritten, fitting, written}
+use Rattle.writable.proofs.Slices.{Laid}
+use Rattle.writing.proofs.Answers.{unwritten, fitting, written}
 use Rattle.writing.proofs.write.Statement.{statement}
 use Rattle.writing.proofs.write.Tie as tie
 

@@ -1,4 +1,4 @@
--- `writing::write_refusal` meets its contract: the tests of the job, and after them the room. A block list has at most 3,200 bytes, and there are at most 1,300 readings. Assumes nothing.
+-- `writable::write_refusal` meets its contract: the tests of the job, and after them the room. A block list has at most 3,200 bytes, and there are at most 1,300 readings. Assumes nothing.
 use mathlib.Core.Path.{_≡_, sym, _∙_}
 use native.Mathlib.Omega.{arith}
 use borrow.Author.Needs.{needs}
@@ -10,9 +10,9 @@ use Rattle.meaning.specs.Refusals.{accepted}
 use Rattle.meaning.specs.Calls.{jobVerdict}
 use Rattle.meaning.specs.Writing.{fileLength}
 use Rattle.laws.proofs.Chains.{listed-most}
-use Rattle.writing.proofs.Answers.{Laid, laid}
-use Rattle.writing.proofs.write_refusal.Statement.{statement}
-use Rattle.writing.proofs.write_refusal.Tie as tie
+use Rattle.writable.proofs.Slices.{Laid, laid}
+use Rattle.writable.proofs.write_refusal.Statement.{statement}
+use Rattle.writable.proofs.write_refusal.Tie as tie
 
 -- the tests of the job
 module _ (s : tie.Start) where

@@ -14,8 +14,8 @@ use Rattle.meaning.specs.Refusals.{accepted}
 use Rattle.laws.specs.Fits.{Fits}
 use Rattle.spread.specs.Hundredths.{spreadingFrom}
 use Rattle.words.specs.Bits.{bit}
+use Rattle.weighable.specs.Verdicts.{weighVerdict}
 use Rattle.weighing.specs.Developed.{squaredTotalsIn}
-use Rattle.weighing.specs.Verdicts.{weighVerdict}
 
 -- the total that stands at place i
 abbrev pub totalAt : List ℤ → ℕ → ℤ

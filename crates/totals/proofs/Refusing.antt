@@ -18,8 +18,8 @@ use Rattle.meaning.specs.Refusals.{_⨾_, accepted, refused, clean, inReach}
 use Rattle.meaning.specs.Calls.{given, written, slices, developVerdict, wordsUnder, squareSum, squaredTotalsVerdict, squaredTotalsAnswer, totalVerdict, totalAnswer}
 use Rattle.laws.proofs.Chains.{Sound, opened, goes-on, accepts, refused-stays, test-yes, test-no, accepted-last, given-yes, sliced, slices-sound}
 use Rattle.readings.proofs.Answers.{design-clean}
+use Rattle.weighable.specs.Verdicts.{weighVerdict}
 use Rattle.weighing.specs.Developed.{totalIn, squaredTotalsIn}
-use Rattle.weighing.specs.Verdicts.{weighVerdict}
 use Rattle.weighing.proofs.Developing.{Laid, laid, laid-squares}
 use Rattle.weighing.proofs.Refusing.{weigh-reach}
 use Rattle.totals.specs.Answers.{noTotal}

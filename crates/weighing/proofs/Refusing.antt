@@ -2,40 +2,25 @@
 --     Weighable, weighable             what stands where they are weighed
 --     weigh-reach                      over the words of a design the readings decide
 -- Assumes nothing.
-use mathlib.Core.Path.{_≡_, sym, ap, _∙_, subst}
+use mathlib.Core.Path.{_≡_, sym, ap, _∙_}
 use mathlib.Core.List.{List}
-use Prim.Native.Nat.{ℕ, _*_, _^_, _≤_, _<_}
-use native.Mathlib.Nat.{le-of-eq, zero-add}
+use Prim.Native.Nat.{ℕ, _*_, _≤_}
+use native.Mathlib.Nat.{le-of-eq}
 use native.Mathlib.Omega.{arith}
-use borrow.Author.Tests.{eq-eqb, eqb-true, le-leb, lt-leb, leb-true, leb-false}
+use borrow.Author.Tests.{eq-eqb, eqb-true, le-leb, leb-true}
 use lib.Dec.{eqb, leb}
 use lib.IntN.{ℤ}
-use lib.ListN.{getD, length}
-use Rattle.algebra.proofs.Tests.{first-before, first-from-none}
+use lib.ListN.{length}
 use Rattle.records.specs.declared.Head.{Head}
 use Rattle.records.specs.declared.Verdict.{Verdict}
 use Rattle.meaning.specs.Design.{objects, blocks, sized}
 use Rattle.meaning.specs.Refusals.{accepted, _⨾_, sizes, inReach, room}
 use Rattle.laws.specs.Fits.{Fits}
 use Rattle.laws.proofs.Chains.{opened, held, accepts, goes-on, test-yes, accepted-last, fits, sized-yes, readings-near}
+use Rattle.weighable.specs.Verdicts.{strayWord, weighVerdict}
+use Rattle.weighable.proofs.Refusing.{stray-none, stray-within}
 use Rattle.weighing.specs.Developed.{Weighed, Within}
-use Rattle.weighing.specs.Verdicts.{strayWord, inside, weighVerdict}
 use Rattle.weighing.proofs.Developing.{Laid}
-
--- ---- the first word that strays
-
--- none of the first c words does
-pub stray-none : (words : List ℕ) (c v : ℕ) → ((i : ℕ) → i < c → getD words i 0 < 2 ^ v) → strayWord words c v ≡ c
-unfolding strayWord
-stray-none words c v h = first-from-none (λ i. leb (2 ^ v) (getD words i 0)) 0 c (λ i a b. lt-leb (2 ^ v) (getD words i 0) (h i (omega arith))) ∙ zero-add c
-
--- where none is found, every one has its objects below v
-pub stray-within : (words : List ℕ) (c v : ℕ) → inside words c v ≡ accepted → (i : ℕ) → i < c → getD words i 0 < 2 ^ v
-unfolding strayWord
-stray-within words c v e i l =
-    leb-false _ _ (first-before (λ i. leb (2 ^ v) (getD words i 0)) 0 c i (omega arith) (subst (λ (x : ℕ). i < x) (sym (eqb-true _ _ (held _ _ _ e))) l))
-
--- ---- the whole verdict
 
 -- words and readings that are weighed
 pub record Weighable (h : Head) (words : List ℕ) (y : List ℤ) (len : ℕ) : Type 0 where

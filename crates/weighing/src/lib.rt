@@ -1,10 +1,9 @@
 // The totals of a job and the sum of their squares, from the words of its blocks and its readings: the readings are walked once. Balance is not asked.
-use design::sized;
-use reach::reach_refusal;
 use records::Head;
 use records::SquareSum;
 use records::Verdict;
 use squares::no_sum;
+use weighable::weighing_refusal;
 use words::lowest;
 use words::without_lowest;
 ghost use mathlib.Core.Path.{_≡_};
@@ -16,8 +15,8 @@ ghost use Rattle.algebra.specs.Buffers.{over};
 ghost use Rattle.meaning.specs.Design.{objects, blocks};
 ghost use Rattle.meaning.specs.Analysis.{reading};
 ghost use Rattle.meaning.specs.Calls.{written, squareSum};
+ghost use Rattle.weighable.specs.Verdicts.{weighVerdict};
 ghost use Rattle.weighing.specs.Developed.{totalIn, squaredTotalsIn, added, blockAdded, Weighed, Within, Room};
-ghost use Rattle.weighing.specs.Verdicts.{strayWord, weighVerdict};
 
 // Lays T(0) .. T(v - 1) into `totals`, from two words a block and a reading a block, and hands back the sum of their squares. Any words that name objects of the
 // design alone will do: whether they are a development is not asked.
@@ -35,54 +34,6 @@ pub fn weigh(head: Head, words: &[u64], readings: &[i32], totals: &mut [i64]) ->
         verdict: Verdict::Accepted,
         sum,
     }
-}
-
-// Why words and readings are not weighed, or that they are, into a room of the length given.
-fn weighing_refusal(head: Head, words: &[u64], readings: &[i32], room: usize) -> Verdict
-    ensures { λ r. ⌜ r ≡ weighVerdict head (now (words .entry)) (now (readings .entry)) room ⌝ }
-{
-    if !sized(head) {
-        return Verdict::Refused(4, 0);
-    }
-    let v = head.n + head.flag;
-    let b = head.m * head.n;
-    if words.len() < 2 * b {
-        return Verdict::Refused(3, 0);
-    }
-    if readings.len() != b {
-        return Verdict::Refused(3, 0);
-    }
-    let stray = stray_word(words, b, v);
-    if stray != 2 * b {
-        return Verdict::Refused(5, stray);
-    }
-    if let Verdict::Refused(number, at) = reach_refusal(readings) {
-        return Verdict::Refused(number, at);
-    }
-    if room < v {
-        return Verdict::Refused(10, 0);
-    }
-    Verdict::Accepted
-}
-
-// The first of the words of b blocks that names an object from v on, or 2b where none does. A turn of the loop looks at both words of a block, since it is run for
-// every job and no other walk is as long.
-fn stray_word(words: &[u64], b: usize, v: usize) -> usize
-    requires { ⌜ (2 * b ≤ length (now words)) × (b ≤ 1300) × (v ≤ 50) ⌝ }
-    ensures { λ r. ⌜ r ≡ strayWord (now (words .entry)) (2 * b) v ⌝ }
-{
-    let end = 1u64 << v;
-    let mut k = 0;
-    while k < b {
-        if end <= words[2 * k] {
-            return 2 * k;
-        }
-        if end <= words[2 * k + 1] {
-            return 2 * k + 1;
-        }
-        k += 1;
-    }
-    2 * b
 }
 
 // Lays T(0) .. T(v - 1) into `totals`: the readings are walked once, each added to the objects of its own block.

@@ -15,8 +15,8 @@ use Rattle.meaning.specs.Refusals.{accepted}
 use Rattle.laws.proofs.Chains.{given-yes, given-no}
 use Rattle.squares.proofs.Squares.{squares}
 use Rattle.squares.proofs.Answers.{square-refused, square-accepted}
+use Rattle.weighable.specs.Verdicts.{weighVerdict}
 use Rattle.weighing.specs.Developed.{totalIn, squaredTotalsIn}
-use Rattle.weighing.specs.Verdicts.{weighVerdict}
 use Rattle.weighing.proofs.Developing.{filled-most, filled-squares}
 use Rattle.weighing.proofs.Refusing.{Weighable, weighable}
 use Rattle.weighing.proofs.weigh.Statement.{statement}

@@ -10,9 +10,9 @@ use lib.ListN.{length}
 use Prim.Native.Nat.{_*_}
 use Rattle.meaning.specs.Design.{sized, objects, blocks}
 use Rattle.laws.proofs.Chains.{fits}
-use Rattle.weighing.specs.Verdicts.{strayWord, weighVerdict}
-use Rattle.weighing.proofs.weighing_refusal.Statement.{statement}
-use Rattle.weighing.proofs.weighing_refusal.Tie as tie
+use Rattle.weighable.specs.Verdicts.{strayWord, weighVerdict}
+use Rattle.weighable.proofs.weighing_refusal.Statement.{statement}
+use Rattle.weighable.proofs.weighing_refusal.Tie as tie
 
 -- past the first test the sizes hold
 passed : (c : tie.Else1) → sized (c .before .before .before .args .head) ≡ true

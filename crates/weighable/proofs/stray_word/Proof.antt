@@ -11,9 +11,9 @@ use denote.Ref.{now}
 use Rattle.algebra.specs.Ranges.{firstFrom}
 use Rattle.algebra.proofs.Tests.{first-here, first-on, first-end}
 use Rattle.words.proofs.Bits.{shl-one}
-use Rattle.weighing.specs.Verdicts.{strayWord}
-use Rattle.weighing.proofs.stray_word.Statement.{statement}
-use Rattle.weighing.proofs.stray_word.Tie as tie
+use Rattle.weighable.specs.Verdicts.{strayWord}
+use Rattle.weighable.proofs.stray_word.Statement.{statement}
+use Rattle.weighable.proofs.stray_word.Tie as tie
 
 abbrev Inv-loop : tie.InvT-loop
 Inv-loop words b v end k₀ k = (k ≤ b) × (strayWord words (2 * b) v ≡ firstFrom (λ i. leb (2 ^ v) (getD words i 0)) (2 * k) (2 * b - 2 * k))

@@ -21,7 +21,7 @@ use Rattle.meaning.specs.Refusals.{_⨾_, accepted, refused, clean, inBalance, 
 use Rattle.meaning.specs.Calls.{given, slices, contents, jobVerdict, readingsVerdict, rooms, analyseVerdict, solvedUnder, deviationsVerdict, deviationVerdict, deviationAnswer, spreadingOf, noSpreading, spreadAnswer, qAnswer, squareSum}
 use Rattle.laws.specs.Fits.{Fits}
 use Rattle.laws.proofs.Chains.{opened, accepts, goes-on, refused-stays, chained, accepted-last, test-yes, test-no, sliced, measured}
-use Rattle.refusals.proofs.Jobs.{restrained-yes}
+use Rattle.restraint.proofs.Restrained.{restrained-yes}
 use Rattle.analysis.proofs.Accepting.{rooms-deviations, rooms-all}
 use Rattle.deviations.specs.Answers.{noDeviation}
 

@@ -6,7 +6,7 @@ use records::Solved;
 use records::Spread;
 use records::Spreading;
 use records::Verdict;
-use refusals::judged_with_rooms;
+use rooms::judged_with_rooms;
 ghost use mathlib.Core.Path.{_≡_};
 ghost use Prim.Native.Nat.{_*_, _≤_};
 ghost use lib.ListN.{getD, length};

@@ -1,52 +1,17 @@
 -- A job's verdict, test by test. Assumes nothing.
-use mathlib.Core.Path.{_≡_, refl, sym, ap, _∙_}
-use mathlib.Core.Bool.{Bool, true, false, _&&_}
+use mathlib.Core.Path.{_≡_, sym, ap, _∙_}
 use mathlib.Core.List.{List}
-use Prim.Native.Nat.{ℕ, _*_, _/_, _^_, _<_}
-use native.Mathlib.Nat.{div-lt-iff-lt-mul}
-use native.Mathlib.Omega.{arith}
-use borrow.Author.Tests.{lt-ltb, le-leb}
-use lib.Dec.{leb, ltb}
-use lib.Pow.{pow-pos}
-use lib.IntN.{ℤ, natAbs}
+use Prim.Native.Nat.{ℕ, _*_}
+use lib.IntN.{ℤ}
 use Rattle.algebra.specs.Buffers.{over}
-use Rattle.algebra.proofs.Tests.{and-both}
 use Rattle.records.specs.declared.Head.{Head}
 use Rattle.records.specs.declared.Verdict.{Verdict}
-use Rattle.meaning.specs.Design.{objects, blocks}
-use Rattle.meaning.specs.Refusals.{_⨾_, accepted, refused, sumLimit, clean, inBalance, restraint, inReach}
+use Rattle.meaning.specs.Design.{blocks}
+use Rattle.meaning.specs.Refusals.{_⨾_, accepted, refused, clean, inBalance, restraint, inReach}
 use Rattle.meaning.specs.Calls.{wordAt, wordsUnder, designVerdict, slices, contents, jobVerdict, judgeVerdict, judged}
-use Rattle.laws.proofs.Chains.{Restraint, restrains, test-yes, test-no, opened, accepts, goes-on, refused-stays, given-yes, given-no}
+use Rattle.laws.proofs.Chains.{opened, accepts, goes-on, refused-stays, given-yes, given-no}
 use Rattle.readings.proofs.Answers.{design-clean}
 use Rattle.refusals.specs.Judgement.{judgedUnder, noJudgement}
-
--- ---- the restraint
-
--- a set with no bit at v or above
-pub inside : (v w : ℕ) → w / 2 ^ v ≡ 0 → w < 2 ^ v
-inside v w e =
-    let low : w < 1 * 2 ^ v = div-lt-iff-lt-mul (pow-pos v) .0 (omega arith) in
-    omega arith
-
--- the shift of such a set is 0
-pub shifted : (v w : ℕ) → w < 2 ^ v → w / 2 ^ v ≡ 0
-shifted v w h =
-    let wide : w < 1 * 2 ^ v = omega arith in
-    let low : w / 2 ^ v < 1 = div-lt-iff-lt-mul (pow-pos v) .1 wide in
-    omega arith
-
--- a restraint that is in order is accepted
-pub restrained-yes : (h : Head) (w : ℕ) (M : ℤ) → Restraint h w M → restraint h w M ≡ accepted
-restrained-yes h w M r = test-yes (ltb 0 w && ltb w (2 ^ objects h) && leb (natAbs M) sumLimit) 7 0
-    (and-both (and-both (lt-ltb _ _ (r .set-some)) (lt-ltb _ _ (r .set-inside))) (le-leb _ _ (r .sum-most)))
-
--- one that cannot be in order is refused
-pub restrained-no : (h : Head) (w : ℕ) (M : ℤ) → (Restraint h w M → ⊥) → restraint h w M ≡ refused 7 0
-restrained-no h w M n = by (ltb 0 w && ltb w (2 ^ objects h) && leb (natAbs M) sumLimit) refl
-  where
-    by : (t : Bool) → ltb 0 w && ltb w (2 ^ objects h) && leb (natAbs M) sumLimit ≡ t → restraint h w M ≡ refused 7 0
-    by true e = absurd (n (restrains h w M (test-yes _ 7 0 e)))
-    by false e = test-no _ 7 0 e
 
 -- ---- the words that are left
 

@@ -1,4 +1,3 @@
--- The laws of a job's verdict, one a way out.
+-- The laws of a job's verdict, one a way out, and what the promises determine.
 pub mod Jobs
-pub mod Rooms
 pub mod Determined

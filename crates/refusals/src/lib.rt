@@ -6,10 +6,10 @@ use records::Head;
 use records::Judged;
 use records::Parameters;
 use records::Verdict;
+use restraint::restraint_refusal;
 ghost use mathlib.Core.Path.{_≡_};
-ghost use Rattle.laws.specs.Fits.{Fits};
-ghost use Rattle.meaning.specs.Refusals.{_⨾_, refused, clean, restraint};
-ghost use Rattle.meaning.specs.Calls.{wordsUnder, slices, jobVerdict, rooms, analyseVerdict};
+ghost use Rattle.meaning.specs.Refusals.{_⨾_, refused, clean};
+ghost use Rattle.meaning.specs.Calls.{wordsUnder, slices, jobVerdict};
 ghost use Rattle.refusals.specs.Judgement.{judgedUnder, noJudgement};
 
 // Why a whole job is refused, or that it is accepted: 4 to 8, with no room.
@@ -51,75 +51,8 @@ pub fn judged_job(
     judged
 }
 
-// The same with the rooms for the words, the values and the deviations, of the lengths given: they are looked at after everything else. `developed` is a room
-// for working and no answer here too: the design's words are written there once its bytes are accepted, also where a later test refuses.
-pub fn judged_with_rooms(
-    head: Head,
-    blocks: &[u8],
-    readings: &[i32],
-    set: u64,
-    sum: i64,
-    words: usize,
-    values: usize,
-    deviations: usize,
-    developed: &mut [u64; 2600],
-) -> Judged
-    ensures { λ r. ⌜ r ≡ judgedUnder (analyseVerdict head (now (blocks .entry)) (now (readings .entry)) set sum words values deviations) head (now (blocks .entry)) ⌝ }
-    ensures { λ r. ⌜ now (developed .exit) ≡ wordsUnder (slices head (now (blocks .entry)) (now (readings .entry)) ⨾ clean head (now (blocks .entry))) head (now (blocks .entry)) (now (developed .entry)) ⌝ }
-{
-    let judged = judged_job(head, blocks, readings, set, sum, developed);
-    let verdict = judged.verdict;
-    if let Verdict::Refused(number, place) = verdict {
-        return no_judgement(number, place);
-    }
-    if let Verdict::Refused(number, at) = rooms_refusal(head, words, values, deviations) {
-        return no_judgement(number, at);
-    }
-    judged
-}
-
-// Room for the words, then for the values, then for the deviations.
-fn rooms_refusal(head: Head, words: usize, values: usize, deviations: usize) -> Verdict
-    requires { ⌜ Fits head ⌝ }
-    ensures { λ r. ⌜ r ≡ rooms head words values deviations ⌝ }
-{
-    let v = head.n + head.flag;
-    let b = head.m * head.n;
-    if words < 2 * b {
-        return Verdict::Refused(10, 0);
-    }
-    if values < v {
-        return Verdict::Refused(10, 0);
-    }
-    if deviations < b {
-        return Verdict::Refused(10, 0);
-    }
-    Verdict::Accepted
-}
-
-// The restraint set is not empty and has no bit at v or above, and the sum is in its range.
-fn restraint_refusal(head: Head, set: u64, sum: i64) -> Verdict
-    requires { ⌜ Fits head ⌝ }
-    ensures { λ r. ⌜ r ≡ restraint head set sum ⌝ }
-{
-    let v = head.n + head.flag;
-    if set == 0 {
-        return Verdict::Refused(7, 0);
-    }
-    if set >> v != 0 {
-        return Verdict::Refused(7, 0);
-    }
-    if sum < -1000000000 {
-        return Verdict::Refused(7, 0);
-    }
-    if 1000000000 < sum {
-        return Verdict::Refused(7, 0);
-    }
-    Verdict::Accepted
-}
-
 // What a refused job's judgement is.
-fn no_judgement(number: u8, at: usize) -> Judged
+pub fn no_judgement(number: u8, at: usize) -> Judged
     ensures { λ r. ⌜ r ≡ noJudgement (refused number at) ⌝ }
 {
     let parameters = Parameters {

@@ -6,7 +6,6 @@ use mir.Facts.{toZ-ofZ}
 use Rattle.records.specs.declared.Judged.{Judged}
 use Rattle.meaning.specs.Refusals.{_⨾_, accepted, clean, restraint}
 use Rattle.meaning.specs.Calls.{wordsUnder, slices, judgeVerdict}
-use Rattle.laws.proofs.Chains.{sliced}
 use Rattle.refusals.proofs.Jobs.{words-stay, words-developed, job-slices, job-design, job-restraint, job-reach, no-judgement-is, judgement-is}
 use Rattle.refusals.proofs.judged_job.Statement.{statement}
 use Rattle.refusals.proofs.judged_job.Tie as tie
@@ -101,7 +100,7 @@ judged-job-spec =
     (λ c κs. search needs)
     returns-2
     (λ c. search needs)
-    (λ c κs. sliced _ _ _ (measured (lengths (c .before .before))) .sizes)
+    (λ c κs. search needs)
     (λ c. search needs)
     (λ c κs. search needs)
     returns-3

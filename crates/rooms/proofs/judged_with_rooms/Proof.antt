@@ -8,10 +8,10 @@ use Rattle.records.specs.declared.Judged.{Judged}
 use Rattle.meaning.specs.Refusals.{accepted, refused}
 use Rattle.meaning.specs.Calls.{jobVerdict}
 use Rattle.laws.proofs.Chains.{job}
 use Rattle.refusals.specs.Judgement.{judgedUnder}
-use Rattle.refusals.proofs.Rooms.{analyse-refused, analyse-rooms, no-judgement-with, judgement-with}
-use Rattle.refusals.proofs.judged_with_rooms.Statement.{statement}
-use Rattle.refusals.proofs.judged_with_rooms.Tie as tie
+use Rattle.rooms.proofs.Rooms.{analyse-refused, analyse-rooms, no-judgement-with, judgement-with}
+use Rattle.rooms.proofs.judged_with_rooms.Statement.{statement}
+use Rattle.rooms.proofs.judged_with_rooms.Tie as tie
 
 -- the job's own verdict
 abbrev tests : tie.Start → Verdict

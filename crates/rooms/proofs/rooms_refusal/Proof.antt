@@ -1,9 +1,9 @@
 -- `rooms_refusal`: each way out by its own test. Assumes nothing.
 use borrow.Author.Needs.{needs}
 use mathlib.Core.Path.{sym}
-use Rattle.refusals.proofs.Rooms.{no-words, no-values, no-deviations, roomy}
-use Rattle.refusals.proofs.rooms_refusal.Statement.{statement}
-use Rattle.refusals.proofs.rooms_refusal.Tie as tie
+use Rattle.rooms.proofs.Rooms.{no-words, no-values, no-deviations, roomy}
+use Rattle.rooms.proofs.rooms_refusal.Statement.{statement}
+use Rattle.rooms.proofs.rooms_refusal.Tie as tie
 
 returns : tie.Need-returns
 returns c = let s = c .before .before .before in sym (no-words (s .args .head) (s .args .words) (s .args .values) (s .args .deviations) (search needs))

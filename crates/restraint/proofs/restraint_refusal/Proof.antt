@@ -1,20 +1,22 @@
 -- `restraint_refusal`: each way out by the fact that its test denies. Assumes nothing.
 use borrow.Author.Needs.{needs}
-use mathlib.Core.Path.{sym}
+use mathlib.Core.Path.{sym, _∙_}
+use native.Mathlib.Nat.{not-le-of-lt}
 use native.Mathlib.Omega.{arith}
+use borrow.Author.Tests.{leb-true, leb-false}
 use mir.Facts.{toZ-ofZ}
 use Rattle.algebra.proofs.Signs.{too-low, too-high, between}
-use Rattle.refusals.proofs.Jobs.{inside, shifted, restrained-yes, restrained-no}
-use Rattle.refusals.proofs.restraint_refusal.Statement.{statement}
-use Rattle.refusals.proofs.restraint_refusal.Tie as tie
+use Rattle.restraint.proofs.Restrained.{restrained-yes, restrained-no}
+use Rattle.restraint.proofs.restraint_refusal.Statement.{statement}
+use Rattle.restraint.proofs.restraint_refusal.Tie as tie
 
 returns : tie.Need-returns
-returns c = let s = c .before .before in
+returns c = let s = c .before in
     sym (restrained-no (s .args .head) (s .args .set) (s .args .sum) (λ r. omega (arith, r .set-some)))
 
 returns-2 : tie.Need-returns-2
 returns-2 c = let s = c .before .before .before in
-    sym (restrained-no (s .args .head) (s .args .set) (s .args .sum) (λ r. c .if2 .taken (shifted _ _ (r .set-inside))))
+    sym (restrained-no (s .args .head) (s .args .set) (s .args .sum) (λ r. not-le-of-lt (r .set-inside) (leb-true _ _ (sym (c .before .past-objects .ensures) ∙ c .if2 .taken))))
 
 returns-3 : tie.Need-returns-3
 returns-3 c = let s = c .before .before .before .before in
@@ -28,11 +30,11 @@ returns-5 : tie.Need-returns-5
 returns-5 c = let s = c .before .before .before .before .before in
     let read = toZ-ofZ (s .fits .sum) in
     sym (restrained-yes (s .args .head) (s .args .set) (s .args .sum) (record {
-      set-some = omega (arith, c .before .before .before .if1 .left);
-      set-inside = inside _ _ (search needs);
+      set-some = omega (arith, c .before .before .before .before .if1 .left);
+      set-inside = leb-false _ _ (sym (c .before .before .before .past-objects .ensures) ∙ c .before .before .if2 .left);
       sum-most = between (s .args .sum) 999999999 (search (rw read at (c .before .if3 .left))) (search (rw read at (c .if4 .left)));
     }))
 
 pub restraint-refusal-spec : {M : Type 1} → statement M
 restraint-refusal-spec =
-    tie.close (tie.spec (λ c. search needs) returns (λ c. search needs) returns-2 returns-3 returns-4 returns-5)
+    tie.close (tie.spec returns (λ c κs. search needs) returns-2 returns-3 returns-4 returns-5)

@@ -1,68 +1,34 @@
 -- The judgement, by what its tests gave: the test over two tables is the test of balance, and each way out of the call has its answer.
---     pair-company-other, pair-opposition-other, pair-even    the test of one pair
---     tables-more, tables-fail                                one turn of the test over two tables
---     tables-tell, side-size                                  what the tables and the words of an accepted block list say
---     tables-refused, tables-accepted                         the judgement over two tables
---     judged-refused, judged-accepted                         the answer of the call
+--     tables-tell, tables-small, side-size    what the tables and the words of an accepted block list say
+--     judged-refused, judged-accepted         the answer of the call
 -- Assumes nothing.
-use Prim.Native.Nat.{ℕ, _+_, _-_, _*_, _≤_, _<_}
-use mathlib.Core.Path.{_≡_, refl, ap, ap₂, _∙_}
-use mathlib.Core.Bool.{true, false, _&&_}
+use Prim.Native.Nat.{ℕ, _*_, _≤_, _<_}
+use mathlib.Core.Path.{_≡_, ap, ap₂, _∙_}
+use mathlib.Core.Bool.{true, _&&_}
 use mathlib.Core.List.{List, [], replicate}
 use native.Mathlib.Nat.{add-le-add, mul-le-mul}
 use native.Mathlib.Omega.{arith}
-use borrow.Author.Tests.{eq-eqb, ne-eqb}
 use lib.Dec.{eqb}
 use lib.ListN.{length, getD}
 use Rattle.algebra.specs.Ranges.{sumℕ}
 use Rattle.algebra.specs.Buffers.{over}
 use Rattle.algebra.proofs.Filling.{getD-over}
 use Rattle.algebra.proofs.Sums.{sumℕ-le-const}
-use Rattle.algebra.proofs.Tests.{all-cong, all-more, all-fails}
+use Rattle.algebra.proofs.Tests.{all-cong}
 use Rattle.records.specs.declared.Head.{Head}
 use Rattle.records.specs.declared.Judged.{Judged}
 use Rattle.meaning.specs.Design.{objects, blocks, occ, left, right, company, opposition, balanced, beta}
-use Rattle.meaning.specs.Refusals.{accepted, refused, test}
+use Rattle.meaning.specs.Refusals.{accepted, refused}
 use Rattle.meaning.specs.Calls.{wordAt, designVerdict, wordsUnder, judgeVerdict, judged, noParameters, tableOf, companyTable, oppositionTable}
 use Rattle.laws.proofs.Chains.{Sound, sound, given-yes}
 use Rattle.laws.proofs.Clean.{block-once, left-objects, left-length}
 use Rattle.words.specs.Bits.{bit}
 use Rattle.words.proofs.Sides.{ones-word}
 use Rattle.pairs.specs.Meetings.{entry}
-use Rattle.balance.specs.Tables.{pairEven, rowEven, tablesEven, tablesJudged}
+use Rattle.evenness.specs.Tables.{tablesEven, tablesSized, tablesJudged}
+use Rattle.evenness.proofs.Judging.{fit-tables}
 
--- ---- the test of one pair
-
-module _ (c o : List ℕ) (l1 l2 j : ℕ) where
-  -- the company is another
-  pub pair-company-other : (getD c j 0 ≡ l1 → ⊥) → pairEven c o l1 l2 j ≡ false
-  pair-company-other other = rw (ne-eqb (getD c j 0) l1 other)
-
-  -- the company is right, and the opposition is another
-  pub pair-opposition-other : getD c j 0 ≡ l1 → (getD o j 0 ≡ l2 → ⊥) → pairEven c o l1 l2 j ≡ false
-  pair-opposition-other e other = rw (eq-eqb (getD c j 0) l1 e, ne-eqb (getD o j 0) l2 other)
-
-  -- both are right
-  pub pair-even : getD c j 0 ≡ l1 → getD o j 0 ≡ l2 → pairEven c o l1 l2 j ≡ true
-  pair-even e f = rw (eq-eqb (getD c j 0) l1 e, eq-eqb (getD o j 0) l2 f)
-
--- ---- the test over two tables
-
-module _ (c o : List (List ℕ)) (l1 l2 : ℕ) where
-  -- no row, as the loop begins
-  pub tables-none : tablesEven c o l1 l2 0 ≡ true
-  unfolding tablesEven
-  tables-none = refl
-
-  -- one row more
-  pub tables-more : (i : ℕ) → tablesEven c o l1 l2 i ≡ true → rowEven (getD c i []) (getD o i []) l1 l2 i ≡ true → tablesEven c o l1 l2 (i + 1) ≡ true
-  unfolding tablesEven
-  tables-more i before here = all-more i _ before here
-
-  -- a row that fails
-  pub tables-fail : (v i : ℕ) → i < v → rowEven (getD c i []) (getD o i []) l1 l2 i ≡ false → tablesEven c o l1 l2 v ≡ false
-  unfolding tablesEven
-  tables-fail v i l here = all-fails v i _ l here
+-- ---- the tables of a sound design
 
 -- an entry of a table of f
 pub entry-of : (v : ℕ) (f : ℕ → ℕ → ℕ) (i j : ℕ) → v ≤ 50 → i < v → j < v → entry (tableOf v f) i j ≡ f i j
@@ -136,22 +102,14 @@ module _ (h : Head) (d : List ℕ) (e : designVerdict h d ≡ accepted) where
         ap (λ (t : List (List ℕ)). entry t 1 0) opposition-is ∙ entry-of (objects h) (opposition h d) 1 0 (omega arith) (omega arith) (omega arith)
 
     -- it is small
-    pub first-most : entry o 1 0 ≤ 2600
+    first-most : entry o 1 0 ≤ 2600
     first-most = let fit = sound h d e .sizes in omega (arith, opposition-first, opposition-most h d (sound h d e) 1 0)
 
+    -- so the tables have the size of those of a design
+    pub tables-small : tablesSized (objects h) (entry o 1 0) ≡ true
+    tables-small = let fit = sound h d e .sizes in fit-tables (objects h) (entry o 1 0) (omega arith) (omega arith) first-most
+
 -- ---- the answers
-
--- the judgement over two tables that fail the test
-pub tables-refused : (v b p : ℕ) (c o : List (List ℕ)) {j : Judged} → tablesEven c o (entry c 1 0) (entry o 1 0) v ≡ false → j ≡ record { verdict = refused 6 0; parameters = noParameters } → j ≡ tablesJudged v b p c o
-unfolding tablesJudged
-tables-refused v b p c o f is = rw f is
-
--- over two that pass it, from each parameter
-pub tables-accepted : (v b p : ℕ) (c o : List (List ℕ)) (v′ b′ r′ p′ l1′ l2′ : ℕ) → tablesEven c o (entry c 1 0) (entry o 1 0) v ≡ true
-    → v′ ≡ v → b′ ≡ b → r′ ≡ (entry o 1 0 - entry c 1 0) * (v - 1) → p′ ≡ p → l1′ ≡ entry c 1 0 → l2′ ≡ entry o 1 0
-    → _≡_ {A = Judged} (record { verdict = accepted; parameters = record { v = v′; b = b′; r = r′; p = p′; l1 = l1′; l2 = l2′ } }) (tablesJudged v b p c o)
-unfolding tablesJudged
-tables-accepted v b p c o v′ b′ r′ p′ l1′ l2′ f ev eb er ep e1 e2 = rw (f, ev, eb, er, ep, e1, e2)
 
 -- the block list is refused
 pub judged-refused : (h : Head) (d : List ℕ) (number at : ℕ) {r : Judged} → designVerdict h d ≡ refused number at → r ≡ record { verdict = refused number at; parameters = noParameters } → r ≡ judged h d
@@ -159,7 +117,7 @@ unfolding judgeVerdict
 judged-refused h d number at e is = rw e is
 
 -- it is accepted: the judgement is that over the two tables
-pub judged-accepted : (h : Head) (d : List ℕ) (p : ℕ) (c o : List (List ℕ)) → designVerdict h d ≡ accepted → tablesEven c o (entry c 1 0) (entry o 1 0) (objects h) ≡ balanced h d
+pub judged-accepted : (h : Head) (d : List ℕ) (p : ℕ) (c o : List (List ℕ)) → designVerdict h d ≡ accepted → tablesSized (objects h) (entry o 1 0) ≡ true → tablesEven c o (entry c 1 0) (entry o 1 0) (objects h) ≡ balanced h d
     → p ≡ h .p → entry c 1 0 ≡ company h d 1 0 → entry o 1 0 ≡ opposition h d 1 0 → tablesJudged (objects h) (blocks h) p c o ≡ judged h d
 unfolding judgeVerdict tablesJudged beta
-judged-accepted h d p c o e f ep e1 e2 = rw (e, f, ep, e1, e2)
+judged-accepted h d p c o e s f ep e1 e2 = rw (e, s, f, ep, e1, e2)

@@ -7,7 +7,7 @@ use Rattle.meaning.specs.Refusals.{accepted}
 use Rattle.meaning.specs.Calls.{designVerdict, wordsUnder, companyTable, oppositionTable}
 use Rattle.laws.proofs.Chains.{sound}
 use Rattle.pairs.proofs.Whole.{room-enough, words-left, company-left, opposition-left}
-use Rattle.balance.proofs.Judging.{side-size, tables-tell, company-first, opposition-first, first-most, judged-refused, judged-accepted}
+use Rattle.balance.proofs.Judging.{side-size, tables-tell, company-first, opposition-first, tables-small, judged-refused, judged-accepted}
 use native.Mathlib.Omega.{arith}
 use borrow.Author.Needs.{needs}
 use Rattle.balance.proofs.judge_developed.Statement.{statement}
@@ -48,21 +48,13 @@ add-v c = let f = sound _ _ (passed (c .before)) .sizes in omega arith
 mul-b : tie.Need-mul-b
 mul-b c = let f = sound _ _ (passed (c .before .before)) .sizes in omega arith
 
-judge-tables-requires : tie.Need-judge-tables-requires
-judge-tables-requires c κs =
-    let p = c .before .before .before .before .before .before in
-    let e = passed p in
-    let f = sound _ _ e .sizes in
-    let t = p .before .before in
-    (omega arith, omega arith, first-most _ _ e (company t) (opposition t))
-
 returns-2 : tie.Need-returns-2
 returns-2 c =
     let p = c .before .before .before .before .before .before .before in
     let e = passed p in
     let t = p .before .before in (
       c .judge-tables .ensures
-          ∙ judged-accepted _ _ _ _ _ e (tables-tell _ _ e (company t) (opposition t)) (c .before .before .before .ones .ensures ∙ side-size _ _ e _ (whole t) (words t))
+          ∙ judged-accepted _ _ _ _ _ e (tables-small _ _ e (company t) (opposition t)) (tables-tell _ _ e (company t) (opposition t)) (c .before .before .before .ones .ensures ∙ side-size _ _ e _ (whole t) (words t))
           (company-first _ _ e (company t) (opposition t)) (opposition-first _ _ e (company t) (opposition t)),
       search (words t),
     )
@@ -80,5 +72,5 @@ judge-developed-spec =
     mul-b
     (λ c. search needs)
     (λ c κs. search needs)
-    judge-tables-requires
+    (λ c κs. search needs)
     returns-2)

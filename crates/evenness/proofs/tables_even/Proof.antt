@@ -1,15 +1,15 @@
--- `balance::tables_even` meets its contract: every row before i passed. Assumes nothing.
+-- `evenness::tables_even` meets its contract: every row before i passed. Assumes nothing.
 use Prim.Native.Nat.{_≤_, _-_}
 use mathlib.Core.Path.{_≡_, sym, ap, _∙_}
 use mathlib.Core.Bool.{true}
 use borrow.Author.Tests.{not-true, not-false}
 use denote.Ref.{now}
-use Rattle.balance.specs.Tables.{tablesEven}
-use Rattle.balance.proofs.Judging.{tables-none, tables-more, tables-fail}
+use Rattle.evenness.specs.Tables.{tablesEven}
+use Rattle.evenness.proofs.Judging.{tables-none, tables-more, tables-fail}
 use native.Mathlib.Omega.{arith}
 use borrow.Author.Needs.{needs}
-use Rattle.balance.proofs.tables_even.Statement.{statement}
-use Rattle.balance.proofs.tables_even.Tie as tie
+use Rattle.evenness.proofs.tables_even.Statement.{statement}
+use Rattle.evenness.proofs.tables_even.Tie as tie
 
 abbrev Inv-loop : tie.InvT-loop
 Inv-loop company opposition v l1 l2 i₀ i = (i ≤ v) × (tablesEven company opposition l1 l2 i ≡ true)

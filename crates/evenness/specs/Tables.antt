@@ -1,13 +1,13 @@
--- The test of balance over two pair tables, and the judgement that follows from it. Assumes nothing.
+-- The tests of two pair tables, and the judgement that follows from them. Assumes nothing.
 use Prim.Native.Nat.{ℕ, _-_, _*_}
 use mathlib.Core.Bool.{Bool, _&&_}
 use mathlib.Core.List.{List, []}
 use lib.ListN.{getD}
-use lib.Dec.{eqb}
+use lib.Dec.{eqb, leb}
 use Rattle.algebra.specs.Ranges.{all}
 use Rattle.records.specs.declared.Judged.{Judged}
 use Rattle.records.specs.declared.Parameters.{Parameters}
-use Rattle.meaning.specs.Refusals.{test}
+use Rattle.meaning.specs.Refusals.{_⨾_, test}
 use Rattle.meaning.specs.Calls.{given, noParameters}
 use Rattle.pairs.specs.Meetings.{entry}
 
@@ -23,8 +23,12 @@ rowEven c o l1 l2 i = all i (pairEven c o l1 l2)
 unfoldable pub tablesEven : List (List ℕ) → List (List ℕ) → ℕ → ℕ → ℕ → Bool
 tablesEven c o l1 l2 v = all v (λ i. rowEven (getD c i []) (getD o i []) l1 l2 i)
 
--- the judgement over two tables of v objects in b blocks, p objects a side: every pair has the entries of the objects 1 and 0
+-- the tables have the size of those of a design: 1 to 50 objects, and the objects 1 and 0 oppose at most 2,600 times
+unfoldable pub tablesSized : ℕ → ℕ → Bool
+tablesSized v l2 = leb 1 v && leb v 50 && leb l2 2600
+
+-- the judgement over two tables of v objects in b blocks, p objects a side: they have the size of a design's, and every pair has the entries of the objects 1 and 0
 unfoldable pub tablesJudged : ℕ → ℕ → ℕ → List (List ℕ) → List (List ℕ) → Judged
-tablesJudged v b p c o = let verdict = test (tablesEven c o (entry c 1 0) (entry o 1 0) v) 6 0 in
+tablesJudged v b p c o = let verdict = test (tablesSized v (entry o 1 0)) 4 0 ⨾ test (tablesEven c o (entry c 1 0) (entry o 1 0) v) 6 0 in
     let parameters : Parameters = record { v = v; b = b; r = (entry o 1 0 - entry c 1 0) * (v - 1); p = p; l1 = entry c 1 0; l2 = entry o 1 0 } in
     record { verdict = verdict; parameters = given verdict parameters noParameters }

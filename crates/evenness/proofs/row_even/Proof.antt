@@ -1,15 +1,15 @@
--- `balance::row_even` meets its contract: every object before j passed the test. Assumes nothing.
+-- `evenness::row_even` meets its contract: every object before j passed the test. Assumes nothing.
 use Prim.Native.Nat.{ℕ, _≤_, _-_}
 use mathlib.Core.Path.{_≡_, refl, sym, ap, _∙_}
 use mathlib.Core.Bool.{true}
 use denote.Ref.{now}
 use Rattle.algebra.proofs.Tests.{all-more, all-fails}
-use Rattle.balance.specs.Tables.{pairEven, rowEven}
-use Rattle.balance.proofs.Judging.{pair-company-other, pair-opposition-other, pair-even}
+use Rattle.evenness.specs.Tables.{pairEven, rowEven}
+use Rattle.evenness.proofs.Judging.{pair-company-other, pair-opposition-other, pair-even}
 use native.Mathlib.Omega.{arith}
 use borrow.Author.Needs.{needs}
-use Rattle.balance.proofs.row_even.Statement.{statement}
-use Rattle.balance.proofs.row_even.Tie as tie
+use Rattle.evenness.proofs.row_even.Statement.{statement}
+use Rattle.evenness.proofs.row_even.Tie as tie
 
 abbrev Inv-loop : tie.InvT-loop
 Inv-loop company opposition i l1 l2 j₀ j = (j ≤ i) × (rowEven company opposition l1 l2 j ≡ true)

@@ -1,2 +1,0 @@
--- What the private functions count and test.
-pub mod Tables

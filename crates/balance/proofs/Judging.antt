@@ -24,7 +24,7 @@ use Rattle.laws.proofs.Chains.{Sound, sound, given-yes}
 use Rattle.laws.proofs.Clean.{block-once, left-objects, left-length}
 use Rattle.words.specs.Bits.{bit}
 use Rattle.words.proofs.Sides.{ones-word}
-use Rattle.pairs.specs.Meetings.{entry}
+use Rattle.algebra.specs.Tables.{entry}
 use Rattle.evenness.specs.Tables.{tablesEven, tablesSized, tablesJudged}
 use Rattle.evenness.proofs.Judging.{fit-tables}
 

@@ -15,7 +15,7 @@ use Rattle.algebra.proofs.Tests.{and-left, and-right, all-more, all-fails}
 use Rattle.records.specs.declared.Judged.{Judged}
 use Rattle.meaning.specs.Refusals.{accepted, refused}
 use Rattle.meaning.specs.Calls.{noParameters}
-use Rattle.pairs.specs.Meetings.{entry}
+use Rattle.algebra.specs.Tables.{entry}
 use Rattle.evenness.specs.Tables.{pairEven, rowEven, tablesEven, tablesSized, tablesJudged}
 
 -- ---- the test of one pair

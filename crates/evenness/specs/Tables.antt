@@ -9,7 +9,7 @@ use Rattle.records.specs.declared.Judged.{Judged}
 use Rattle.records.specs.declared.Parameters.{Parameters}
 use Rattle.meaning.specs.Refusals.{_⨾_, test}
 use Rattle.meaning.specs.Calls.{given, noParameters}
-use Rattle.pairs.specs.Meetings.{entry}
+use Rattle.algebra.specs.Tables.{entry}
 
 -- column j of a row of each table is l1 and l2
 abbrev pub pairEven : List ℕ → List ℕ → ℕ → ℕ → ℕ → Bool

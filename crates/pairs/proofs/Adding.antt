@@ -17,7 +17,8 @@ use Rattle.meaning.specs.Calls.{noTable, tableOf}
 use Rattle.words.specs.Bits.{bit, lowestOf, withoutLowest}
 use Rattle.words.proofs.Bits.{bit-none}
 use Rattle.words.proofs.Walk.{lowest-one, rest-here, rest-other}
-use Rattle.pairs.specs.Meetings.{eachAt, rowMore, tableMore, entry}
+use Rattle.algebra.specs.Tables.{entry}
+use Rattle.pairs.specs.Meetings.{eachAt, rowMore, tableMore}
 
 -- ---- a change at every place
 

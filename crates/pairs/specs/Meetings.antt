@@ -33,10 +33,6 @@ meetings false l r i j = companyOf l i j + companyOf r i j
 unfoldable pub tally : Bool → List ℕ → ℕ → ℕ → ℕ → ℕ
 tally opposite ws b i j = sumℕ b (λ k. meetings opposite (getD ws (2 * k) 0) (getD ws (2 * k + 1) 0) i j)
 
--- row i and column j of a table
-abbrev pub entry : List (List ℕ) → ℕ → ℕ → ℕ
-entry t i j = getD (getD t i []) j 0
-
 -- a lent table after a call: the company of a design, or, on a refusal, as it was
 abbrev pub companyUnder : Verdict → Head → List ℕ → List (List ℕ) → List (List ℕ)
 companyUnder verdict h d t = given verdict (tableOf (objects h) (company h d)) t

@@ -8,7 +8,8 @@ ghost use Prim.Native.Nat.{ℕ, _+_, _*_, _^_, _≤_, _<_};
 ghost use lib.ListN.{length, getD};
 ghost use Rattle.meaning.specs.Calls.{developVerdict, wordsUnder, noTable};
 ghost use Rattle.words.specs.Bits.{companyOf, oppositionOf};
-ghost use Rattle.pairs.specs.Meetings.{rowMore, tableMore, tally, entry, companyUnder, oppositionUnder};
+ghost use Rattle.algebra.specs.Tables.{entry};
+ghost use Rattle.pairs.specs.Meetings.{rowMore, tableMore, tally, companyUnder, oppositionUnder};
 
 // Develops a design into the words, and writes its two pair tables: how often two objects share a side, and how often they oppose. All stay on refusal.
 pub fn tables(

@@ -5,7 +5,7 @@ use mathlib.Core.Bool.{true}
 use native.Mathlib.Nat.{mul-le-mul}
 use borrow.Author.Tests.{not-true, not-false}
 use denote.Ref.{now}
-use Rattle.pairs.specs.Meetings.{entry}
+use Rattle.algebra.specs.Tables.{entry}
 use Rattle.evenness.specs.Tables.{tablesSized}
 use Rattle.evenness.proofs.Judging.{tables-fit, tables-unsized, tables-refused, tables-accepted}
 use native.Mathlib.Omega.{arith}

@@ -8,7 +8,8 @@ use lib.ListN.{getD}
 use Rattle.meaning.specs.Calls.{noTable}
 use Rattle.words.specs.Bits.{companyOf, oppositionOf}
 use Rattle.words.proofs.Bits.{product-most}
-use Rattle.pairs.specs.Meetings.{tableMore, tally, entry}
+use Rattle.algebra.specs.Tables.{entry}
+use Rattle.pairs.specs.Meetings.{tableMore, tally}
 use Rattle.pairs.proofs.Adding.{entry-most}
 use Rattle.pairs.proofs.Counted.{filled-none, filled-more, filled-most}
 use native.Mathlib.Omega.{arith}

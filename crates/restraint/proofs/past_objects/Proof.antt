@@ -13,10 +13,10 @@ returns-2 : tie.Need-returns-2
 returns-2 c = let s = c .before .before in none-past-63 (objects (s .args .head)) (s .args .set) (omega arith) (search needs)
 
 returns-3 : tie.Need-returns-3
-returns-3 c = some-past _ _ (c .if3 .taken)
+returns-3 c = let s = c .before .before .before in some-past (objects (s .args .head)) (s .args .set) (search (c .if3 .taken))
 
 returns-4 : tie.Need-returns-4
-returns-4 c = none-past _ _ (c .if3 .left)
+returns-4 c = let s = c .before .before .before in none-past (objects (s .args .head)) (s .args .set) (search needs)
 
 pub past-objects-spec : {M : Type 1} → statement M
 past-objects-spec = tie.close (tie.spec returns returns-2 (λ c. search needs) (λ c. search needs) returns-3 returns-4)

@@ -1,5 +1,6 @@
 -- A job's verdict, test by test. Assumes nothing.
 use mathlib.Core.Path.{_≡_, sym, ap, _∙_}
+use mathlib.Core.Bool.{true, false}
 use mathlib.Core.List.{List}
 use Prim.Native.Nat.{ℕ, _*_}
 use lib.IntN.{ℤ}
@@ -7,9 +8,10 @@ use Rattle.algebra.specs.Buffers.{over}
 use Rattle.records.specs.declared.Head.{Head}
 use Rattle.records.specs.declared.Verdict.{Verdict}
 use Rattle.meaning.specs.Design.{blocks}
-use Rattle.meaning.specs.Refusals.{_⨾_, accepted, refused, clean, inBalance, restraint, inReach}
-use Rattle.meaning.specs.Calls.{wordAt, wordsUnder, designVerdict, slices, contents, jobVerdict, judgeVerdict, judged}
+use Rattle.meaning.specs.Refusals.{_⨾_, accepted, refused, number, place, clean, inBalance, restraint, inReach}
+use Rattle.meaning.specs.Calls.{given, wordAt, wordsUnder, designVerdict, slices, contents, jobVerdict, judgeVerdict, judged}
 use Rattle.laws.proofs.Chains.{opened, accepts, goes-on, refused-stays, given-yes, given-no}
+use Rattle.verdicts.proofs.Told.{refusing}
 use Rattle.readings.proofs.Answers.{design-clean}
 use Rattle.refusals.specs.Judgement.{judgedUnder, noJudgement}
 
@@ -64,8 +66,8 @@ module _ (h : Head) (d : List ℕ) (y : List ℤ) (w : ℕ) (M : ℤ) where
       job-reach e = goes-on _ s ∙ goes-on _ (accepts (sym judge-contents ∙ j) e)
 
   -- a refusal has no parameters
-  pub no-judgement-is : (k at : ℕ) → jobVerdict h d y w M ≡ refused k at → noJudgement (refused k at) ≡ judgedUnder (jobVerdict h d y w M) h d
-  no-judgement-is k at e = sym (ap (λ (v : Verdict). judgedUnder v h d) e)
+  pub no-judgement-is : (v : Verdict) → given v false true ≡ true → jobVerdict h d y w M ≡ refused (number v) (place v) → noJudgement v ≡ judgedUnder (jobVerdict h d y w M) h d
+  no-judgement-is v r e = ap noJudgement (refusing v r) ∙ sym (ap (λ (v : Verdict). judgedUnder v h d) e)
 
   -- an acceptance has those of the design
   pub judgement-is : judgeVerdict h d ≡ accepted → jobVerdict h d y w M ≡ accepted → judged h d ≡ judgedUnder (jobVerdict h d y w M) h d

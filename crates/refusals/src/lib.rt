@@ -7,8 +7,9 @@ use records::Judged;
 use records::Parameters;
 use records::Verdict;
 use restraint::restraint_refusal;
+use verdicts::is_refused;
 ghost use mathlib.Core.Path.{_≡_};
-ghost use Rattle.meaning.specs.Refusals.{_⨾_, refused, clean};
+ghost use Rattle.meaning.specs.Refusals.{_⨾_, clean};
 ghost use Rattle.meaning.specs.Calls.{wordsUnder, slices, jobVerdict};
 ghost use Rattle.refusals.specs.Judgement.{judgedUnder, noJudgement};
 
@@ -34,26 +35,29 @@ pub fn judged_job(
     ensures { λ r. ⌜ r ≡ judgedUnder (jobVerdict head (now (blocks .entry)) (now (readings .entry)) set sum) head (now (blocks .entry)) ⌝ }
     ensures { λ _. ⌜ now (developed .exit) ≡ wordsUnder (slices head (now (blocks .entry)) (now (readings .entry)) ⨾ clean head (now (blocks .entry))) head (now (blocks .entry)) (now (developed .entry)) ⌝ }
 {
-    if let Verdict::Refused(number, at) = slices_refusal(head, blocks, readings) {
-        return no_judgement(number, at);
+    let sliced = slices_refusal(head, blocks, readings);
+    if is_refused(sliced) {
+        return no_judgement(sliced);
     }
     let judged = judge_developed(head, blocks, developed);
     let verdict = judged.verdict;
-    if let Verdict::Refused(number, at) = verdict {
-        return no_judgement(number, at);
+    if is_refused(verdict) {
+        return no_judgement(verdict);
     }
-    if let Verdict::Refused(number, at) = restraint_refusal(head, set, sum) {
-        return no_judgement(number, at);
+    let restrained = restraint_refusal(head, set, sum);
+    if is_refused(restrained) {
+        return no_judgement(restrained);
     }
-    if let Verdict::Refused(number, at) = reach_refusal(readings) {
-        return no_judgement(number, at);
+    let reached = reach_refusal(readings);
+    if is_refused(reached) {
+        return no_judgement(reached);
     }
     judged
 }
 
-// What a refused job's judgement is.
-pub fn no_judgement(number: u8, at: usize) -> Judged
-    ensures { λ r. ⌜ r ≡ noJudgement (refused number at) ⌝ }
+// What a refused job's judgement is: the verdict, and zeros.
+pub fn no_judgement(verdict: Verdict) -> Judged
+    ensures { λ r. ⌜ r ≡ noJudgement verdict ⌝ }
 {
     let parameters = Parameters {
         v: 0,
@@ -64,7 +68,7 @@ pub fn no_judgement(number: u8, at: usize) -> Judged
         l2: 0,
     };
     Judged {
-        verdict: Verdict::Refused(number, at),
+        verdict,
         parameters,
     }
 }

@@ -1,5 +1,6 @@
 -- A job's verdict with its rooms, test by test. Assumes nothing.
 use mathlib.Core.Path.{_≡_, sym, ap, _∙_}
+use mathlib.Core.Bool.{true, false}
 use mathlib.Core.List.{List}
 use Prim.Native.Nat.{ℕ, _*_, _≤_, _<_}
 use borrow.Author.Tests.{le-leb, lt-leb}
@@ -8,9 +9,10 @@ use lib.IntN.{ℤ}
 use Rattle.records.specs.declared.Head.{Head}
 use Rattle.records.specs.declared.Verdict.{Verdict}
 use Rattle.meaning.specs.Design.{objects, blocks}
-use Rattle.meaning.specs.Refusals.{accepted, refused}
-use Rattle.meaning.specs.Calls.{jobVerdict, rooms, analyseVerdict}
+use Rattle.meaning.specs.Refusals.{accepted, refused, number, place}
+use Rattle.meaning.specs.Calls.{given, jobVerdict, rooms, analyseVerdict}
 use Rattle.laws.proofs.Chains.{accepts, goes-on, refused-stays, test-yes, test-no}
+use Rattle.verdicts.proofs.Told.{refusing}
 use Rattle.refusals.specs.Judgement.{judgedUnder, noJudgement}
 
 -- ---- rooms
@@ -56,8 +58,9 @@ module _ (h : Head) (d : List ℕ) (y : List ℤ) (w : ℕ) (M : ℤ) (words val
   analyse-rooms e = goes-on _ e
 
   -- a refusal has no parameters
-  pub no-judgement-with : (k at : ℕ) → analyseVerdict h d y w M words values deviations ≡ refused k at → noJudgement (refused k at) ≡ judgedUnder (analyseVerdict h d y w M words values deviations) h d
-  no-judgement-with k at e = sym (ap (λ (v : Verdict). judgedUnder v h d) e)
+  pub no-judgement-with : (v : Verdict) → given v false true ≡ true → analyseVerdict h d y w M words values deviations ≡ refused (number v) (place v)
+      → noJudgement v ≡ judgedUnder (analyseVerdict h d y w M words values deviations) h d
+  no-judgement-with v r e = ap noJudgement (refusing v r) ∙ sym (ap (λ (v : Verdict). judgedUnder v h d) e)
 
   -- where the rooms are long enough, the job's own judgement stands
   pub judgement-with : jobVerdict h d y w M ≡ accepted → rooms h words values deviations ≡ accepted → judgedUnder (jobVerdict h d y w M) h d ≡ judgedUnder (analyseVerdict h d y w M words values deviations) h d

@@ -4,6 +4,7 @@ use records::Judged;
 use records::Verdict;
 use refusals::judged_job;
 use refusals::no_judgement;
+use verdicts::is_refused;
 ghost use mathlib.Core.Path.{_≡_};
 ghost use Rattle.laws.specs.Fits.{Fits};
 ghost use Rattle.meaning.specs.Refusals.{_⨾_, clean};
@@ -29,11 +30,12 @@ pub fn judged_with_rooms(
 {
     let judged = judged_job(head, blocks, readings, set, sum, developed);
     let verdict = judged.verdict;
-    if let Verdict::Refused(number, place) = verdict {
-        return no_judgement(number, place);
+    if is_refused(verdict) {
+        return no_judgement(verdict);
     }
-    if let Verdict::Refused(number, at) = rooms_refusal(head, words, values, deviations) {
-        return no_judgement(number, at);
+    let roomy = rooms_refusal(head, words, values, deviations);
+    if is_refused(roomy) {
+        return no_judgement(roomy);
     }
     judged
 }

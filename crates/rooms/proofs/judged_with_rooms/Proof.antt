@@ -8,6 +8,7 @@ use Rattle.records.specs.declared.Judged.{Judged}
 use Rattle.meaning.specs.Refusals.{accepted, refused}
 use Rattle.meaning.specs.Calls.{jobVerdict}
 use Rattle.laws.proofs.Chains.{job}
+use Rattle.verdicts.proofs.Told.{refusing, accepting}
 use Rattle.refusals.specs.Judgement.{judgedUnder}
 use Rattle.rooms.proofs.Rooms.{analyse-refused, analyse-rooms, no-judgement-with, judgement-with}
 use Rattle.rooms.proofs.judged_with_rooms.Statement.{statement}
@@ -29,42 +30,41 @@ module _ (c : tie.After-judged-job) where
   judged-verdict = ap (λ (r : Judged). r .verdict) judgement
 
 -- past the job's own tests
-passed : (c : tie.After-enum-told) → tests (start (c .before .before)) ≡ accepted
-passed c = sym (judged-verdict (c .before .before)) ∙ c .enum-told .given .1
+passed : (c : tie.Else1) → tests (start (c .before .before)) ≡ accepted
+passed c = sym (judged-verdict (c .before .before)) ∙ accepting _ (sym (c .before .is-refused .ensures) ∙ c .if1 .left)
 
 returns : tie.Need-returns
 returns c =
-    let j = c .before .before .before .before in
+    let j = c .before .before .before in
     let s = start j in
-    let e : tests s ≡ refused _ _ = sym (judged-verdict j) ∙ c .before .before .verdict .given .1 in
-    (c .no-judgement .ensures ∙ search (no-judgement-with _ _ _ _ _ _ _ _ _ _ (analyse-refused _ _ _ _ _ (s .args .words) (s .args .values) (s .args .deviations) _ _ e)), search (j .judged-job .ensures .1))
+    let r = sym (c .before .before .is-refused .ensures) ∙ c .before .if1 .taken in
+    let e : tests s ≡ refused _ _ = sym (judged-verdict j) ∙ refusing _ r in
+    (c .no-judgement .ensures ∙ search (no-judgement-with _ _ _ _ _ _ _ _ (j .judged-job .result .verdict) r (analyse-refused _ _ _ _ _ (s .args .words) (s .args .values) (s .args .deviations) _ _ e)), search (j .judged-job .ensures .1))
 
 returns-2 : tie.Need-returns-2
 returns-2 c =
-    let p = c .before .before .before .before .before in (
-      c .no-judgement2 .ensures
-          ∙ no-judgement-with _ _ _ _ _ _ _ _ _ _ (analyse-rooms _ _ _ _ _ _ _ _ (passed p) ∙ sym (c .before .before .before .before .rooms-refusal .ensures) ∙ c .before .before .number .given .1),
-      search (p .before .before .judged-job .ensures .1),
+    let t = c .before .before .before in
+    let r = sym (c .before .before .is-refused2 .ensures) ∙ c .before .if2 .taken in (
+      c .no-judgement2 .ensures ∙ no-judgement-with _ _ _ _ _ _ _ _ _ r (analyse-rooms _ _ _ _ _ _ _ _ (passed (t .before)) ∙ sym (t .rooms-refusal .ensures) ∙ refusing _ r),
+      search (t .before .before .before .judged-job .ensures .1),
     )
 
 returns-3 : tie.Need-returns-3
 returns-3 c =
-    let p = c .before .before .before in
-    let j = p .before .before in
-    (judgement j ∙ judgement-with _ _ _ _ _ _ _ _ (passed p) (sym (c .before .before .rooms-refusal .ensures) ∙ c .enum-told2 .given .1), search (j .judged-job .ensures .1))
+    let t = c .before .before in
+    let j = t .before .before .before in
+    (judgement j ∙ judgement-with _ _ _ _ _ _ _ _ (passed (t .before)) (sym (t .rooms-refusal .ensures) ∙ accepting _ (sym (c .before .is-refused2 .ensures) ∙ c .if2 .left)), search (j .judged-job .ensures .1))
 
 pub judged-with-rooms-spec : {M : Type 1} → statement M
 judged-with-rooms-spec =
     tie.close
     (tie.spec
     (λ c κs. search needs)
-    (λ c. search needs)
+    (λ c κs. search needs)
     (λ c κs. search needs)
     returns
-    (λ c. search needs)
     (λ c κs. job _ _ _ _ _ (passed c) .measures .design .sizes)
-    (λ c. search needs)
+    (λ c κs. search needs)
     (λ c κs. search needs)
     returns-2
-    (λ c. search needs)
     returns-3)

@@ -3,6 +3,7 @@
 //! It works with sets of objects, counts pairs over developed blocks, solves the normal equations in exact fractions,
 //! takes deviations and their squares from the solved values, and searches the spread. Built with nothing but the compiler:
 //!
+//!     mkdir -p target/count
 //!     rustc -O --edition 2021 tests/count/main.rs -o target/count/count
 
 mod balanced;

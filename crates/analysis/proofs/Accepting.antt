@@ -37,7 +37,7 @@ use Rattle.weighing.proofs.Developing.{Laid, laid-squares}
 use Rattle.weighing.proofs.Refusing.{weigh-reach}
 use Rattle.analysis.proofs.Working.{set-within, set-agrees, fitted-signs}
 use Rattle.analysis.specs.Worked.{Measured, numeratorIn, deviationIn, scaleIn, Workable, workedOut}
-use Rattle.judging.specs.Refused.{noSolution}
+use Rattle.verdicts.specs.Zeros.{noSolution}
 
 -- ---- verdicts
 

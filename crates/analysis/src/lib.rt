@@ -1,12 +1,13 @@
 // A whole job worked out at once: totals, then values, deviations and spread.
 use judging::judged_with_words;
-use judging::no_solution;
 use records::Head;
 use records::Parameters;
 use records::Solved;
 use records::Spreading;
 use records::Verdict;
 use spread::spread_from;
+use verdicts::is_refused;
+use verdicts::no_solution;
 use weighing::weigh;
 use words::lowest;
 use words::ones;
@@ -50,7 +51,7 @@ pub fn analyse(
         deviations.len(),
     );
     let verdict = judged.verdict;
-    if let Verdict::Refused(_, _) = verdict {
+    if is_refused(verdict) {
         return no_solution(verdict);
     }
     work(

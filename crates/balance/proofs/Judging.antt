@@ -3,8 +3,8 @@
 --     judged-refused, judged-accepted         the answer of the call
 -- Assumes nothing.
 use Prim.Native.Nat.{ℕ, _*_, _≤_, _<_}
-use mathlib.Core.Path.{_≡_, ap, ap₂, _∙_}
-use mathlib.Core.Bool.{true, _&&_}
+use mathlib.Core.Path.{_≡_, sym, ap, ap₂, _∙_}
+use mathlib.Core.Bool.{true, false, _&&_}
 use mathlib.Core.List.{List, [], replicate}
 use native.Mathlib.Nat.{add-le-add, mul-le-mul}
 use native.Mathlib.Omega.{arith}
@@ -16,12 +16,14 @@ use Rattle.algebra.proofs.Filling.{getD-over}
 use Rattle.algebra.proofs.Sums.{sumℕ-le-const}
 use Rattle.algebra.proofs.Tests.{all-cong}
 use Rattle.records.specs.declared.Head.{Head}
-use Rattle.records.specs.declared.Judged.{Judged}
+use Rattle.records.specs.declared.Verdict.{Verdict}
 use Rattle.meaning.specs.Design.{objects, blocks, occ, left, right, company, opposition, balanced, beta}
-use Rattle.meaning.specs.Refusals.{accepted, refused}
-use Rattle.meaning.specs.Calls.{wordAt, designVerdict, wordsUnder, judgeVerdict, judged, noParameters, tableOf, companyTable, oppositionTable}
+use Rattle.meaning.specs.Refusals.{accepted}
+use Rattle.meaning.specs.Calls.{given, wordAt, designVerdict, wordsUnder, judgeVerdict, judged, tableOf, companyTable, oppositionTable}
 use Rattle.laws.proofs.Chains.{Sound, sound, given-yes}
 use Rattle.laws.proofs.Clean.{block-once, left-objects, left-length}
+use Rattle.verdicts.specs.Zeros.{noJudgement}
+use Rattle.verdicts.proofs.Told.{refusing}
 use Rattle.words.specs.Bits.{bit}
 use Rattle.words.proofs.Sides.{ones-word}
 use Rattle.algebra.specs.Tables.{entry}
@@ -112,9 +114,9 @@ module _ (h : Head) (d : List ℕ) (e : designVerdict h d ≡ accepted) where
 -- ---- the answers
 
 -- the block list is refused
-pub judged-refused : (h : Head) (d : List ℕ) (number at : ℕ) {r : Judged} → designVerdict h d ≡ refused number at → r ≡ record { verdict = refused number at; parameters = noParameters } → r ≡ judged h d
+pub judged-refused : (h : Head) (d : List ℕ) (v : Verdict) → v ≡ designVerdict h d → given v false true ≡ true → noJudgement v ≡ judged h d
 unfolding judgeVerdict
-judged-refused h d number at e is = rw e is
+judged-refused h d v e r = rw (sym e ∙ refusing v r) (ap noJudgement (refusing v r))
 
 -- it is accepted: the judgement is that over the two tables
 pub judged-accepted : (h : Head) (d : List ℕ) (p : ℕ) (c o : List (List ℕ)) → designVerdict h d ≡ accepted → tablesSized (objects h) (entry o 1 0) ≡ true → tablesEven c o (entry c 1 0) (entry o 1 0) (objects h) ≡ balanced h d

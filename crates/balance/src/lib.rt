@@ -1,9 +1,9 @@
 // The judgement of a design, read off its two pair tables.
 use evenness::judge_tables;
-use evenness::refused_judgement;
 use records::Head;
 use records::Judged;
-use records::Verdict;
+use verdicts::is_refused;
+use verdicts::no_judgement;
 ghost use mathlib.Core.Path.{_≡_};
 ghost use Rattle.meaning.specs.Calls.{designVerdict, wordsUnder, judged};
 
@@ -22,14 +22,9 @@ pub fn judge_developed(head: Head, blocks: &[u8], developed: &mut [u64; 2600]) -
 {
     let mut company = [[0u64; 50]; 50];
     let mut opposition = [[0u64; 50]; 50];
-    if let Verdict::Refused(number, at) = pairs::tables(
-        head,
-        blocks,
-        developed,
-        &mut company,
-        &mut opposition,
-    ) {
-        return refused_judgement(number, at);
+    let verdict = pairs::tables(head, blocks, developed, &mut company, &mut opposition);
+    if is_refused(verdict) {
+        return no_judgement(verdict);
     }
     let v = head.n + head.flag;
     let b = head.m * head.n;

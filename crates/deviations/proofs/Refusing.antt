@@ -1,7 +1,8 @@
 -- The verdicts of deviations, Q and spread, from that of a whole job with a restraint that is always accepted. Assumes nothing.
-use mathlib.Core.Path.{_≡_, refl, sym, ap, ap₂, _∙_}
+use mathlib.Core.Path.{_≡_, refl, sym, ap, _∙_}
+use mathlib.Core.Bool.{true, false}
 use mathlib.Core.List.{List}
-use Prim.Native.Nat.{ℕ, _*_, _^_, _≤_, _<_}
+use Prim.Native.Nat.{ℕ, _≤_, _<_}
 use native.Mathlib.Omega.{arith}
 use borrow.Author.Tests.{lt-ltb, le-ltb}
 use lib.Dec.{ltb}
@@ -10,17 +11,17 @@ use lib.IntN.{ℤ, pos}
 use Rattle.records.specs.declared.Head.{Head}
 use Rattle.records.specs.declared.Verdict.{Verdict}
 use Rattle.records.specs.declared.Verdict.the-variants.{Accepted, Refused}
-use Rattle.records.specs.declared.Spreading.{Spreading}
 use Rattle.records.specs.declared.Solved.{Solved}
 use Rattle.records.specs.declared.JobSpread.{JobSpread}
 use Rattle.records.specs.declared.SquareSum.{SquareSum}
 use Rattle.records.specs.declared.BlockDeviation.{BlockDeviation}
 use Rattle.meaning.specs.Design.{objects, blocks}
 use Rattle.meaning.specs.Analysis.{deviationOf, vbeta, qOf}
-use Rattle.meaning.specs.Refusals.{_⨾_, accepted, refused, clean, inBalance, restraint, inReach, exists, room}
-use Rattle.meaning.specs.Calls.{given, slices, contents, jobVerdict, readingsVerdict, rooms, analyseVerdict, solvedUnder, deviationsVerdict, deviationVerdict, deviationAnswer, spreadingOf, noSpreading, spreadAnswer, qAnswer, squareSum}
+use Rattle.meaning.specs.Refusals.{_⨾_, accepted, refused, number, place, clean, inBalance, restraint, inReach, room}
+use Rattle.meaning.specs.Calls.{given, slices, contents, jobVerdict, readingsVerdict, rooms, analyseVerdict, solvedUnder, deviationsVerdict, deviationVerdict, deviationAnswer, spreadingOf, noSpreading, spreadAnswer, squareSum}
 use Rattle.laws.specs.Fits.{Fits}
-use Rattle.laws.proofs.Chains.{opened, accepts, goes-on, refused-stays, chained, accepted-last, test-yes, test-no, sliced, measured}
+use Rattle.laws.proofs.Chains.{accepts, goes-on, refused-stays, accepted-last, test-yes, test-no, sliced, measured}
+use Rattle.verdicts.proofs.Told.{refusing}
 use Rattle.restraint.proofs.Restrained.{restrained-yes}
 use Rattle.analysis.proofs.Accepting.{rooms-deviations, rooms-all}
 use Rattle.deviations.specs.Answers.{noDeviation}
@@ -86,8 +87,8 @@ module _ (h : Head) (d : List ℕ) (y : List ℤ) where
     under v = record { verdict = v; numerator = given v (deviationOf h d y k) (pos 0); denominator = given v (vbeta h d) 0 }
 
     -- a refusal holds zeros
-    pub no-deviation-is : (n at : ℕ) → deviationVerdict h d y k ≡ refused n at → noDeviation (refused n at) ≡ deviationAnswer h d y k
-    no-deviation-is n at e = sym (ap under e)
+    pub no-deviation-is : (v : Verdict) → given v false true ≡ true → deviationVerdict h d y k ≡ refused (number v) (place v) → noDeviation v ≡ deviationAnswer h d y k
+    no-deviation-is v r e = ap noDeviation (refusing v r) ∙ sym (ap under e)
 
     -- an acceptance holds the numerator and v·beta
     pub deviation-is-given : (x : ℤ) (b : ℕ) → deviationVerdict h d y k ≡ accepted → x ≡ deviationOf h d y k → b ≡ vbeta h d →

@@ -6,9 +6,9 @@ use records::Head;
 use records::JobSpread;
 use records::SquareSum;
 use records::Verdict;
+use verdicts::is_refused;
 ghost use mathlib.Core.Path.{_≡_};
 ghost use lib.ListN.{length};
-ghost use Rattle.meaning.specs.Refusals.{refused};
 ghost use Rattle.meaning.specs.Calls.{deviationsVerdict, deviationsUnder, deviationAnswer, qAnswer, spreadAnswer};
 ghost use Rattle.deviations.specs.Answers.{noDeviation};
 
@@ -36,11 +36,12 @@ pub fn deviations(head: Head, blocks: &[u8], readings: &[i32], deviations: &mut 
 pub fn deviation_of(head: Head, blocks: &[u8], readings: &[i32], block: usize) -> BlockDeviation
     ensures { λ r. ⌜ r ≡ deviationAnswer head (now (blocks .entry)) (now (readings .entry)) block ⌝ }
 {
-    if let Verdict::Refused(number, at) = blocks_refusal(head, blocks, readings) {
-        return no_deviation(number, at);
+    let tested = blocks_refusal(head, blocks, readings);
+    if is_refused(tested) {
+        return no_deviation(tested);
     }
     if head.m * head.n <= block {
-        return no_deviation(5, block);
+        return no_deviation(Verdict::Refused(5, block));
     }
     let mut words = [0u64; 2600];
     let mut values = [0i64; 50];
@@ -56,8 +57,8 @@ pub fn deviation_of(head: Head, blocks: &[u8], readings: &[i32], block: usize) -
         &mut deviations,
     );
     let verdict = solved.verdict;
-    if let Verdict::Refused(number, at) = verdict {
-        return no_deviation(number, at);
+    if is_refused(verdict) {
+        return no_deviation(verdict);
     }
     let numerator = deviations[block];
     BlockDeviation {
@@ -102,11 +103,11 @@ pub fn spread(head: Head, blocks: &[u8], readings: &[i32]) -> JobSpread
 }
 
 // What a refused deviation hands back.
-fn no_deviation(number: u8, at: usize) -> BlockDeviation
-    ensures { λ r. ⌜ r ≡ noDeviation (refused number at) ⌝ }
+fn no_deviation(verdict: Verdict) -> BlockDeviation
+    ensures { λ r. ⌜ r ≡ noDeviation verdict ⌝ }
 {
     BlockDeviation {
-        verdict: Verdict::Refused(number, at),
+        verdict,
         numerator: 0,
         denominator: 0,
     }

@@ -2,10 +2,9 @@
 use records::Judged;
 use records::Parameters;
 use records::Verdict;
+use verdicts::no_judgement;
 ghost use mathlib.Core.Path.{_≡_};
 ghost use Prim.Native.Nat.{_-_, _≤_};
-ghost use Rattle.meaning.specs.Calls.{noParameters};
-ghost use Rattle.meaning.specs.Refusals.{refused};
 ghost use Rattle.evenness.specs.Tables.{rowEven, tablesEven, tablesSized, tablesJudged};
 
 // The verdict on two tables of v objects, with the parameters where every pair has the same entries. Tables that no design has, by their size, are refused first.
@@ -21,10 +20,10 @@ pub fn judge_tables(
     let l1 = company[1][0];
     let l2 = opposition[1][0];
     if !sized_tables(v, l2) {
-        return refused_judgement(4, 0);
+        return no_judgement(Verdict::Refused(4, 0));
     }
     if !tables_even(company, opposition, v, l1, l2) {
-        return refused_judgement(6, 0);
+        return no_judgement(Verdict::Refused(6, 0));
     }
     let beta = less(l2, l1);
     let r = beta * (v as u64 - 1);
@@ -98,22 +97,4 @@ fn less(x: u64, y: u64) -> u64
     ensures { λ r. ⌜ r ≡ x - y ⌝ }
 {
     if x < y { 0 } else { x - y }
-}
-
-// The answer of a refusing judgement: all parameters are 0.
-pub fn refused_judgement(number: u8, at: usize) -> Judged
-    ensures { λ r. ⌜ r ≡ record { verdict = refused number at; parameters = noParameters } ⌝ }
-{
-    let parameters = Parameters {
-        v: 0,
-        b: 0,
-        r: 0,
-        p: 0,
-        l1: 0,
-        l2: 0,
-    };
-    Judged {
-        verdict: Verdict::Refused(number, at),
-        parameters,
-    }
 }

@@ -8,16 +8,8 @@ use denote.Triple.Clauses.{AtExit}
 use Rattle.judging.proofs.judged_with_words as judgedWithWordsCall
 use Rattle.judging.proofs.judged_with_words.Kinds as judgedWithWordsCallKinds
 use Rattle.judging.proofs.judged_with_words.Reads as judgedWithWordsCallReads
-use Rattle.judging.proofs.no_solution as noSolutionCall
-use Rattle.judging.proofs.no_solution.Kinds as noSolutionCallKinds
-use Rattle.judging.proofs.no_solution.Reads as noSolutionCallReads
 
 -- the same verdict and parameters, and the same words after
 module _ (κs : Lfts 3) (a : ArgsD judgedWithWordsCall.signature κs) (r q : ResD judgedWithWordsCall.signature κs) (s t : AtExit (endedOf 3 judgedWithWordsCallKinds.ps judgedWithWordsCallKinds.r) κs) where
   pub judged-with-words-determined : judgedWithWordsCallReads.Post κs a r s → judgedWithWordsCallReads.Post κs a q t → (r ≡ q) × (now (s .1 .1 .1 .1 .1 .0) ≡ now (t .1 .1 .1 .1 .1 .0))
   judged-with-words-determined p e = (p .0 ∙ sym (e .0), p .1 ∙ sym (e .1))
-
--- the same record
-module _ (κs : Lfts 0) (a : ArgsD noSolutionCall.signature κs) (r q : ResD noSolutionCall.signature κs) (s t : AtExit (endedOf 0 noSolutionCallKinds.ps noSolutionCallKinds.r) κs) where
-  pub no-solution-determined : noSolutionCallReads.Post κs a r s → noSolutionCallReads.Post κs a q t → r ≡ q
-  no-solution-determined p e = p ∙ sym e

@@ -1,10 +1,6 @@
-// A whole job judged once, and the words of its design laid into the lent room; and what a refused one hands back.
+// A whole job judged once, and the words of its design laid into the lent room.
 use records::Head;
 use records::Judged;
-use records::Parameters;
-use records::Solved;
-use records::Spread;
-use records::Spreading;
 use records::Verdict;
 use rooms::judged_with_rooms;
 ghost use mathlib.Core.Path.{_≡_};
@@ -15,7 +11,6 @@ ghost use Rattle.laws.specs.Fits.{Fits};
 ghost use Rattle.meaning.specs.Design.{blocks};
 ghost use Rattle.meaning.specs.Calls.{analyseVerdict, wordsUnder};
 ghost use Rattle.refusals.specs.Judgement.{judgedUnder};
-ghost use Rattle.judging.specs.Refused.{noSolution};
 
 // The verdict on a whole job, with rooms for its values and its deviations of the lengths given, and the parameters of its design where it is accepted. The
 // judgement develops the design into a room of its own, so that the lent one is written for an accepted job alone.
@@ -49,33 +44,6 @@ pub fn judged_with_words(
         copy_words(head, &developed, words);
     }
     judged
-}
-
-// What a refused job hands back.
-pub fn no_solution(verdict: Verdict) -> Solved
-    ensures { λ r. ⌜ r ≡ noSolution verdict ⌝ }
-{
-    let parameters = Parameters {
-        v: 0,
-        b: 0,
-        r: 0,
-        p: 0,
-        l1: 0,
-        l2: 0,
-    };
-    let spreading = Spreading {
-        q: 0,
-        vbeta: 0,
-        freedom: 0,
-        hundredths: 0,
-        spread: Spread::None,
-    };
-    Solved {
-        verdict,
-        parameters,
-        denominator: 0,
-        spreading,
-    }
 }
 
 // Copies the two words of every block.

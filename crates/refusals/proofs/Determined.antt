@@ -11,9 +11,6 @@ use Rattle.refusals.proofs.refusal.Reads as refusalCallReads
 use Rattle.refusals.proofs.judged_job as judgedJobCall
 use Rattle.refusals.proofs.judged_job.Kinds as judgedJobCallKinds
 use Rattle.refusals.proofs.judged_job.Reads as judgedJobCallReads
-use Rattle.refusals.proofs.no_judgement as noJudgementCall
-use Rattle.refusals.proofs.no_judgement.Kinds as noJudgementCallKinds
-use Rattle.refusals.proofs.no_judgement.Reads as noJudgementCallReads
 
 -- the same verdict
 module _ (κs : Lfts 2) (a : ArgsD refusalCall.signature κs) (r q : ResD refusalCall.signature κs) (s t : AtExit (endedOf 2 refusalCallKinds.ps refusalCallKinds.r) κs) where
@@ -24,8 +21,3 @@ module _ (κs : Lfts 2) (a : ArgsD refusalCall.signature κs) (r q : ResD refusa
 module _ (κs : Lfts 3) (a : ArgsD judgedJobCall.signature κs) (r q : ResD judgedJobCall.signature κs) (s t : AtExit (endedOf 3 judgedJobCallKinds.ps judgedJobCallKinds.r) κs) where
   pub judged-job-determined : judgedJobCallReads.Post κs a r s → judgedJobCallReads.Post κs a q t → (r ≡ q) × (now (s .1 .1 .1 .1 .1 .0) ≡ now (t .1 .1 .1 .1 .1 .0))
   judged-job-determined p e = (p .0 ∙ sym (e .0), p .1 ∙ sym (e .1))
-
--- the same judgement
-module _ (κs : Lfts 0) (a : ArgsD noJudgementCall.signature κs) (r q : ResD noJudgementCall.signature κs) (s t : AtExit (endedOf 0 noJudgementCallKinds.ps noJudgementCallKinds.r) κs) where
-  pub no-judgement-determined : noJudgementCallReads.Post κs a r s → noJudgementCallReads.Post κs a q t → r ≡ q
-  no-judgement-determined p e = p ∙ sym e

@@ -13,7 +13,8 @@ use Rattle.meaning.specs.Calls.{given, wordAt, wordsUnder, designVerdict, slice
 use Rattle.laws.proofs.Chains.{opened, accepts, goes-on, refused-stays, given-yes, given-no}
 use Rattle.verdicts.proofs.Told.{refusing}
 use Rattle.readings.proofs.Answers.{design-clean}
-use Rattle.refusals.specs.Judgement.{judgedUnder, noJudgement}
+use Rattle.verdicts.specs.Zeros.{noJudgement}
+use Rattle.refusals.specs.Judgement.{judgedUnder}
 
 -- ---- the words that are left
 
@@ -69,6 +70,6 @@ module _ (h : Head) (d : List ℕ) (y : List ℤ) (w : ℕ) (M : ℤ) where
   pub no-judgement-is : (v : Verdict) → given v false true ≡ true → jobVerdict h d y w M ≡ refused (number v) (place v) → noJudgement v ≡ judgedUnder (jobVerdict h d y w M) h d
   no-judgement-is v r e = ap noJudgement (refusing v r) ∙ sym (ap (λ (v : Verdict). judgedUnder v h d) e)
 
-  -- an acceptance has those of the design
-  pub judgement-is : judgeVerdict h d ≡ accepted → jobVerdict h d y w M ≡ accepted → judged h d ≡ judgedUnder (jobVerdict h d y w M) h d
+  -- where the job's verdict is the design's, so is its judgement
+  pub judgement-is : {v : Verdict} → judgeVerdict h d ≡ v → jobVerdict h d y w M ≡ v → judged h d ≡ judgedUnder (jobVerdict h d y w M) h d
   judgement-is j e = ap (λ (v : Verdict). judgedUnder v h d) (j ∙ sym e)

@@ -10,7 +10,3 @@ use Rattle.meaning.specs.Calls.{given, noParameters}
 -- a verdict with the parameters of its design, or with zeros where it refuses
 abbrev pub judgedUnder : Verdict → Head → List ℕ → Judged
 judgedUnder verdict h d = record { verdict = verdict; parameters = given verdict (parametersOf h d) noParameters }
-
--- a verdict with zeros
-abbrev pub noJudgement : Verdict → Judged
-noJudgement verdict = record { verdict = verdict; parameters = noParameters }

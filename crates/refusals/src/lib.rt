@@ -4,14 +4,14 @@ use reach::reach_refusal;
 use readings::slices_refusal;
 use records::Head;
 use records::Judged;
-use records::Parameters;
 use records::Verdict;
 use restraint::restraint_refusal;
 use verdicts::is_refused;
+use verdicts::no_judgement;
 ghost use mathlib.Core.Path.{_≡_};
 ghost use Rattle.meaning.specs.Refusals.{_⨾_, clean};
 ghost use Rattle.meaning.specs.Calls.{wordsUnder, slices, jobVerdict};
-ghost use Rattle.refusals.specs.Judgement.{judgedUnder, noJudgement};
+ghost use Rattle.refusals.specs.Judgement.{judgedUnder};
 
 // Why a whole job is refused, or that it is accepted: 4 to 8, with no room.
 pub fn refusal(head: Head, blocks: &[u8], readings: &[i32], set: u64, sum: i64) -> Verdict
@@ -42,7 +42,7 @@ pub fn judged_job(
     let judged = judge_developed(head, blocks, developed);
     let verdict = judged.verdict;
     if is_refused(verdict) {
-        return no_judgement(verdict);
+        return judged;
     }
     let restrained = restraint_refusal(head, set, sum);
     if is_refused(restrained) {
@@ -53,22 +53,4 @@ pub fn judged_job(
         return no_judgement(reached);
     }
     judged
-}
-
-// What a refused job's judgement is: the verdict, and zeros.
-pub fn no_judgement(verdict: Verdict) -> Judged
-    ensures { λ r. ⌜ r ≡ noJudgement verdict ⌝ }
-{
-    let parameters = Parameters {
-        v: 0,
-        b: 0,
-        r: 0,
-        p: 0,
-        l1: 0,
-        l2: 0,
-    };
-    Judged {
-        verdict,
-        parameters,
-    }
 }

@@ -13,7 +13,8 @@ use Rattle.meaning.specs.Refusals.{accepted, refused, number, place}
 use Rattle.meaning.specs.Calls.{given, jobVerdict, rooms, analyseVerdict}
 use Rattle.laws.proofs.Chains.{accepts, goes-on, refused-stays, test-yes, test-no}
 use Rattle.verdicts.proofs.Told.{refusing}
-use Rattle.refusals.specs.Judgement.{judgedUnder, noJudgement}
+use Rattle.verdicts.specs.Zeros.{noJudgement}
+use Rattle.refusals.specs.Judgement.{judgedUnder}
 
 -- ---- rooms
 
@@ -62,6 +63,6 @@ module _ (h : Head) (d : List ℕ) (y : List ℤ) (w : ℕ) (M : ℤ) (words val
       → noJudgement v ≡ judgedUnder (analyseVerdict h d y w M words values deviations) h d
   no-judgement-with v r e = ap noJudgement (refusing v r) ∙ sym (ap (λ (v : Verdict). judgedUnder v h d) e)
 
-  -- where the rooms are long enough, the job's own judgement stands
-  pub judgement-with : jobVerdict h d y w M ≡ accepted → rooms h words values deviations ≡ accepted → judgedUnder (jobVerdict h d y w M) h d ≡ judgedUnder (analyseVerdict h d y w M words values deviations) h d
-  judgement-with e f = ap (λ (v : Verdict). judgedUnder v h d) (e ∙ sym (analyse-rooms e ∙ f))
+  -- where the rooms change nothing, the job's own judgement stands
+  pub judgement-with : {v : Verdict} → jobVerdict h d y w M ≡ v → analyseVerdict h d y w M words values deviations ≡ v → judgedUnder (jobVerdict h d y w M) h d ≡ judgedUnder (analyseVerdict h d y w M words values deviations) h d
+  judgement-with e f = ap (λ (v : Verdict). judgedUnder v h d) (e ∙ sym f)

@@ -3,8 +3,8 @@ use records::Head;
 use records::Judged;
 use records::Verdict;
 use refusals::judged_job;
-use refusals::no_judgement;
 use verdicts::is_refused;
+use verdicts::no_judgement;
 ghost use mathlib.Core.Path.{_≡_};
 ghost use Rattle.laws.specs.Fits.{Fits};
 ghost use Rattle.meaning.specs.Refusals.{_⨾_, clean};
@@ -31,7 +31,7 @@ pub fn judged_with_rooms(
     let judged = judged_job(head, blocks, readings, set, sum, developed);
     let verdict = judged.verdict;
     if is_refused(verdict) {
-        return no_judgement(verdict);
+        return judged;
     }
     let roomy = rooms_refusal(head, words, values, deviations);
     if is_refused(roomy) {

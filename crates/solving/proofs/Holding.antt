@@ -1,17 +1,20 @@
 -- A direct call that is handed what a file holds leaves what the file makes, and its verdict, moved, is that of solving. Assumes nothing.
 use Prim.Native.Nat.{ℕ, _≤_}
 use mathlib.Core.Path.{_≡_, refl, sym, ap, _∙_}
-use mathlib.Core.List.{List, []}
+use mathlib.Core.Bool.{true, false}
+use mathlib.Core.List.{List}
 use native.Mathlib.Omega.{arith}
 use lib.IntN.{ℤ}
 use Rattle.records.specs.declared.Head.{Head}
 use Rattle.records.specs.declared.Solved.{Solved}
 use Rattle.records.specs.declared.Verdict.{Verdict}
 use Rattle.records.specs.declared.Verdict.the-variants.{Accepted, Refused}
-use Rattle.meaning.specs.Refusals.{accepted, refused, place}
+use Rattle.meaning.specs.Refusals.{accepted, place}
 use Rattle.meaning.specs.Calls.{given, analyseVerdict, solvedUnder, wordsUnder, valuesUnder, deviationsUnder}
-use Rattle.meaning.specs.File.{headOf, blocksOf, setOf, sumOf, readingsOf, noHead, fields, placed, readVerdict, solveVerdict}
+use Rattle.meaning.specs.File.{headOf, blocksOf, setOf, sumOf, readingsOf, fields, placed, readVerdict, solveVerdict}
 use Rattle.laws.proofs.Files.{solve-moved}
+use Rattle.verdicts.specs.Zeros.{noSolution}
+use Rattle.verdicts.proofs.Told.{refusing}
 use Rattle.places.proofs.Places.{analyse-place, file-most, given-placed, moved-is}
 use Rattle.places.specs.Moved.{placeLimit}
 use Rattle.solving.specs.Moved.{solvedIn}
@@ -63,11 +66,11 @@ module _ (s : List ℕ) (there : fields s ≡ accepted) (h : Head) (d : List ℕ
       )
 
 -- a file whose fields are refused: nothing is handed back but the refusal, and every room stays
-module _ (s : List ℕ) (k i : ℕ) (refusal : fields s ≡ refused k i) (words values deviations : ℕ) (r : Solved) (l : List ℕ) (x z : List ℤ) where
-  pub solve-refused : r ≡ solvedUnder (refused k i) noHead [] [] 0
+module _ (s : List ℕ) (v : Verdict) (told : v ≡ fields s) (refuses : given v false true ≡ true) (words values deviations : ℕ) (r : Solved) (l : List ℕ) (x z : List ℤ) where
+  pub solve-refused : r ≡ noSolution v
       → (r ≡ solvedUnder (solveVerdict s words values deviations) (headOf s) (blocksOf s) (readingsOf s) (setOf s))
       × ((l ≡ wordsUnder (solveVerdict s words values deviations) (headOf s) (blocksOf s) l)
       × ((x ≡ valuesUnder (solveVerdict s words values deviations) (headOf s) (blocksOf s) (readingsOf s) (setOf s) (sumOf s) x)
       × (z ≡ deviationsUnder (solveVerdict s words values deviations) (headOf s) (blocksOf s) (readingsOf s) z)))
   unfolding readVerdict solveVerdict
-  solve-refused e = rw refusal (e, (refl, (refl, refl)))
+  solve-refused e = rw (sym told ∙ refusing v refuses) (e ∙ ap noSolution (refusing v refuses), (refl, (refl, refl)))

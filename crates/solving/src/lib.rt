@@ -7,18 +7,14 @@ use fields::fields_refusal;
 use places::moved;
 use places::set_of;
 use places::sum_of;
-use records::Parameters;
 use records::Solved;
-use records::Spread;
-use records::Spreading;
-use records::Verdict;
 use signed::readings;
+use verdicts::is_refused;
+use verdicts::no_solution;
 ghost use mathlib.Core.Path.{_≡_};
-ghost use mathlib.Core.List.{[]};
 ghost use lib.ListN.{length};
-ghost use Rattle.meaning.specs.Refusals.{refused};
 ghost use Rattle.meaning.specs.Calls.{solvedUnder, wordsUnder, valuesUnder, deviationsUnder};
-ghost use Rattle.meaning.specs.File.{headOf, blocksOf, setOf, sumOf, readingsOf, noHead, solveVerdict};
+ghost use Rattle.meaning.specs.File.{headOf, blocksOf, setOf, sumOf, readingsOf, solveVerdict};
 ghost use Rattle.solving.specs.Moved.{solvedIn};
 
 // Works a job file out into lent room: words, numerators of the values, numerators of the deviations. A refusal writes nowhere.
@@ -32,8 +28,9 @@ pub fn solve(bytes: &[u8], words: &mut [u64], values: &mut [i64], deviations: &m
     ensures { λ _. ⌜ now (deviations .exit) ≡ deviationsUnder (solveVerdict (now (bytes .entry)) (length (now (words .entry))) (length (now (values .entry))) (length (now (deviations .entry))))
         (headOf (now (bytes .entry))) (blocksOf (now (bytes .entry))) (readingsOf (now (bytes .entry))) (now (deviations .entry)) ⌝ }
 {
-    if let Verdict::Refused(number, place) = fields_refusal(bytes) {
-        return unsolved(number, place);
+    let read = fields_refusal(bytes);
+    if is_refused(read) {
+        return no_solution(read);
     }
     let head = head_of(bytes);
     let third = third_at(bytes);
@@ -68,30 +65,5 @@ fn in_file(bytes: &[u8], solved: Solved) -> Solved
         parameters,
         denominator: solved.denominator,
         spreading,
-    }
-}
-
-// What a refused job hands back.
-fn unsolved(number: u8, place: usize) -> Solved
-    ensures { λ r. ⌜ r ≡ solvedUnder (refused number place) noHead [] [] 0 ⌝ }
-{
-    Solved {
-        verdict: Verdict::Refused(number, place),
-        parameters: Parameters {
-            v: 0,
-            b: 0,
-            r: 0,
-            p: 0,
-            l1: 0,
-            l2: 0,
-        },
-        denominator: 0,
-        spreading: Spreading {
-            q: 0,
-            vbeta: 0,
-            freedom: 0,
-            hundredths: 0,
-            spread: Spread::None,
-        },
     }
 }

@@ -1,5 +1,6 @@
 -- The verdicts of values, from that of a whole job worked out in rooms that are long enough, and the Value of an object. Assumes nothing.
 use mathlib.Core.Path.{_≡_, refl, sym, ap, _∙_}
+use mathlib.Core.Bool.{true, false}
 use mathlib.Core.List.{List}
 use Prim.Native.Nat.{ℕ, _≤_, _<_}
 use native.Mathlib.Omega.{arith}
@@ -14,11 +15,12 @@ use Rattle.records.specs.declared.ObjectValue.{ObjectValue}
 use Rattle.meaning.specs.Design.{objects, blocks}
 use Rattle.meaning.specs.Analysis.{numeratorOf, denominatorOf}
 use Rattle.meaning.specs.Publishing.{published, valueOf, noValue}
-use Rattle.meaning.specs.Refusals.{_⨾_, accepted, refused, clean, inBalance, restraint, inReach, room}
+use Rattle.meaning.specs.Refusals.{_⨾_, accepted, refused, number, place, clean, inBalance, restraint, inReach, room}
 use Rattle.meaning.specs.Calls.{given, slices, contents, jobVerdict, rooms, analyseVerdict, valuesVerdict, valueVerdict, valueAnswer}
 use Rattle.laws.proofs.Chains.{Job, opened, accepts, goes-on, refused-stays, test-yes, test-no, job}
 use Rattle.laws.proofs.Analysis.{job-denominator}
 use Rattle.laws.proofs.Sizes.{numerator-most, denominator-most}
+use Rattle.verdicts.proofs.Told.{refusing}
 use Rattle.quotient.specs.Quotient.{exact, quotientOf, hundredthsOf, valueFrom}
 use Rattle.quotient.proofs.Range.{Exact, quotient-is, hundredths-is}
 use Rattle.analysis.proofs.Accepting.{rooms-values, rooms-all}
@@ -66,8 +68,8 @@ module _ (h : Head) (d : List ℕ) (y : List ℤ) (w : ℕ) (M : ℤ) where
           ∙ sym (goes-on _ (a .0) ∙ ap (λ (v : Verdict). v ⨾ inBalance h d ⨾ restraint h w M ⨾ inReach y) (a .1))
 
     -- a refusal holds no value
-    pub no-value-is : (k at : ℕ) → valueVerdict h d y w M i ≡ refused k at → noValueUnder (refused k at) ≡ valueAnswer h d y w M i
-    no-value-is k at e = sym (ap (λ (v : Verdict). record { verdict = v; value = given v (valueOf h d y w M i) noValue }) e)
+    pub no-value-is : (v : Verdict) → given v false true ≡ true → valueVerdict h d y w M i ≡ refused (number v) (place v) → noValueUnder v ≡ valueAnswer h d y w M i
+    no-value-is v r e = ap noValueUnder (refusing v r) ∙ sym (ap (λ (v : Verdict). record { verdict = v; value = given v (valueOf h d y w M i) noValue }) e)
 
     -- an acceptance holds the value
     pub value-is-given : (x : Value) → valueVerdict h d y w M i ≡ accepted → x ≡ valueOf h d y w M i → _≡_ {A = ObjectValue} (record { verdict = accepted; value = x }) (valueAnswer h d y w M i)

@@ -5,9 +5,9 @@ use readings::blocks_refusal;
 use records::Head;
 use records::ObjectValue;
 use records::Verdict;
+use verdicts::is_refused;
 ghost use mathlib.Core.Path.{_≡_};
 ghost use lib.ListN.{length};
-ghost use Rattle.meaning.specs.Refusals.{refused};
 ghost use Rattle.meaning.specs.Calls.{valuesVerdict, valuesUnder, valueAnswer};
 ghost use Rattle.values.specs.Answers.{noValueUnder};
 
@@ -49,11 +49,12 @@ pub fn value_of(
 ) -> ObjectValue
     ensures { λ r. ⌜ r ≡ valueAnswer head (now (blocks .entry)) (now (readings .entry)) set sum object ⌝ }
 {
-    if let Verdict::Refused(number, at) = blocks_refusal(head, blocks, readings) {
-        return no_value(number, at);
+    let tested = blocks_refusal(head, blocks, readings);
+    if is_refused(tested) {
+        return no_value(tested);
     }
     if head.n + head.flag <= object {
-        return no_value(5, object);
+        return no_value(Verdict::Refused(5, object));
     }
     let mut words = [0u64; 2600];
     let mut values = [0i64; 50];
@@ -69,8 +70,8 @@ pub fn value_of(
         &mut deviations,
     );
     let verdict = solved.verdict;
-    if let Verdict::Refused(number, at) = verdict {
-        return no_value(number, at);
+    if is_refused(verdict) {
+        return no_value(verdict);
     }
     let value = value_from(values[object], solved.denominator);
     ObjectValue {
@@ -80,12 +81,9 @@ pub fn value_of(
 }
 
 // What a refused value hands back: zeros.
-fn no_value(number: u8, at: usize) -> ObjectValue
-    ensures { λ r. ⌜ r ≡ noValueUnder (refused number at) ⌝ }
+fn no_value(verdict: Verdict) -> ObjectValue
+    ensures { λ r. ⌜ r ≡ noValueUnder verdict ⌝ }
 {
     let value = value_from(0, 0);
-    ObjectValue {
-        verdict: Verdict::Refused(number, at),
-        value,
-    }
+    ObjectValue { verdict, value }
 }

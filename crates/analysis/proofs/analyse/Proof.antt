@@ -14,6 +14,7 @@ use Rattle.meaning.specs.Design.{objects, blocks, parametersOf}
 use Rattle.meaning.specs.Refusals.{accepted}
 use Rattle.meaning.specs.Calls.{wordsUnder, noParameters, jobVerdict, analyseVerdict}
 use Rattle.laws.proofs.Chains.{given-yes, given-no, job}
+use Rattle.verdicts.proofs.Told.{refusing, accepting}
 use Rattle.weighing.proofs.Developing.{laid}
 use Rattle.refusals.specs.Judgement.{judgedUnder}
 use Rattle.judging.proofs.Rooms.{analysed}
@@ -50,22 +51,21 @@ module _ (c : tie.After-judged-with-words) where
   judged-verdict = ap (λ (r : Judged). r .verdict) judgement
 
 -- past the tests
-passed : (c : tie.After-enum-told2) → verdict (start (c .before .before .before .before)) ≡ accepted
-passed c = sym (judged-verdict (c .before .before .before .before)) ∙ c .enum-told2 .given .1
+passed : (c : tie.Else1) → verdict (start (c .before .before .before .before)) ≡ accepted
+passed c = sym (judged-verdict (c .before .before .before .before)) ∙ accepting _ (sym (c .before .is-refused .ensures) ∙ c .if1 .left)
 
 -- where it refuses all stays as it was
 returns : tie.Need-returns
 returns c =
-    let t = c .before in
-    let j = t .before .before .before .before in
+    let j = c .before .before .before .before .before in
     let s = start j in
-    let e = sym (judged-verdict j) ∙ t .enum-told .given .1 in (
+    let e = sym (judged-verdict j) ∙ refusing _ (sym (c .before .before .is-refused .ensures) ∙ c .before .if1 .taken) in (
       c .no-solution .ensures ∙ no-solution-is _ (verdict s) (head s) (bytes s) (ys s) (s .args .set) _ _ (judged-verdict j) e,
       (words-under j, (sym (given-no (verdict s) _ _ _ _ e), sym (given-no (verdict s) _ _ _ _ e))),
     )
 
 -- past them
-module _ (c : tie.After-enum-told2) where
+module _ (c : tie.Else1) where
   abbrev judged : tie.After-judged-with-words
   judged = c .before .before .before .before
 
@@ -112,11 +112,10 @@ analyse-spec =
     tie.close
     (tie.spec
     (λ c κs. tt)
-    (λ c. search needs)
+    (λ c κs. tt)
     (λ c κs. tt)
     (λ c. search needs)
     returns
-    (λ c. search needs)
     work-requires
     (λ c. search needs)
     (λ c. search needs)

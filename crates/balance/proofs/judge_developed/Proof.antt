@@ -6,6 +6,7 @@ use lib.ListN.{length}
 use Rattle.meaning.specs.Refusals.{accepted}
 use Rattle.meaning.specs.Calls.{designVerdict, wordsUnder, companyTable, oppositionTable}
 use Rattle.laws.proofs.Chains.{sound}
+use Rattle.verdicts.proofs.Told.{accepting}
 use Rattle.pairs.proofs.Whole.{room-enough, words-left, company-left, opposition-left}
 use Rattle.balance.proofs.Judging.{side-size, tables-tell, company-first, opposition-first, tables-small, judged-refused, judged-accepted}
 use native.Mathlib.Omega.{arith}
@@ -34,13 +35,13 @@ module _ (c : tie.After-tables) where
   opposition = opposition-left _ _ whole refl (c .tables .ensures .1 .1 .1)
 
 -- past the refusal, the block list is accepted
-passed : (c : tie.After-enum-told) → designVerdict (start (c .before .before) .args .head) (now (start (c .before .before) .args .blocks)) ≡ accepted
-passed c = sym (verdict (c .before .before)) ∙ c .enum-told .given .1
+passed : (c : tie.Else1) → designVerdict (start (c .before .before) .args .head) (now (start (c .before .before) .args .blocks)) ≡ accepted
+passed c = sym (verdict (c .before .before)) ∙ accepting _ (sym (c .before .is-refused .ensures) ∙ c .if1 .left)
 
 returns : tie.Need-returns
 returns c =
-    let t = c .before .before .before .before in
-    (judged-refused _ _ _ _ (sym (verdict t) ∙ c .before .before .number .given .1) (search needs), search (words t))
+    let t = c .before .before .before in
+    (c .no-judgement .ensures ∙ search (judged-refused _ _ (t .tables .result) (verdict t) (sym (c .before .before .is-refused .ensures) ∙ c .before .if1 .taken)), search (words t))
 
 add-v : tie.Need-add-v
 add-v c = let f = sound _ _ (passed (c .before)) .sizes in omega arith
@@ -64,10 +65,9 @@ judge-developed-spec =
     tie.close
     (tie.spec
     (λ c κs. search needs)
-    (λ c. search needs)
+    (λ c κs. search needs)
     (λ c κs. search needs)
     returns
-    (λ c. search needs)
     add-v
     mul-b
     (λ c. search needs)

@@ -1,6 +1,6 @@
 -- `deviation_of`: past its own tests the readings decide, and the block's numerator stands in the room. Assumes nothing.
 use borrow.Author.Needs.{needs}
-use mathlib.Core.Path.{_≡_, sym, ap, _∙_}
+use mathlib.Core.Path.{_≡_, refl, sym, ap, _∙_}
 use mathlib.Core.List.{List}
 use Prim.Native.Nat.{ℕ, _<_}
 use native.Mathlib.Omega.{arith}
@@ -15,21 +15,22 @@ use Rattle.records.specs.declared.Spreading.{Spreading}
 use Rattle.records.specs.declared.Solved.{Solved}
 use Rattle.meaning.specs.Design.{blocks}
 use Rattle.meaning.specs.Analysis.{deviationOf, vbeta}
-use Rattle.meaning.specs.Refusals.{_⨾_, accepted, clean}
+use Rattle.meaning.specs.Refusals.{_⨾_, accepted, refused, clean}
 use Rattle.meaning.specs.Calls.{slices, readingsVerdict, analyseVerdict, spreadingOf, noSpreading}
 use Rattle.laws.specs.Fits.{Fits}
 use Rattle.laws.proofs.Chains.{opened, sliced, given-yes}
+use Rattle.verdicts.proofs.Told.{refusing, accepting}
 use Rattle.deviations.proofs.Refusing.{spread-verdict, deviation-refused, deviation-no-block, deviation-readings, no-deviation-is, deviation-is-given}
 use Rattle.deviations.proofs.deviation_of.Statement.{statement}
 use Rattle.deviations.proofs.deviation_of.Tie as tie
 
 -- past the tests of the blocks
-passed : (c : tie.After-enum-told) →
+passed : (c : tie.Else1) →
     slices (c .before .before .before .before .args .head) (now (c .before .before .before .before .args .blocks)) (now (c .before .before .before .before .args .readings)) ⨾ clean (c .before .before .before .before .args .head) (now (c .before .before .before .before .args .blocks)) ≡ accepted
-passed c = sym (c .before .before .blocks-refusal .ensures) ∙ c .enum-told .given .1
+passed c = sym (c .before .before .blocks-refusal .ensures) ∙ accepting _ (sym (c .before .is-refused .ensures) ∙ c .if1 .left)
 
 -- the sizes hold then
-fits : (c : tie.After-enum-told) → Fits (c .before .before .before .before .args .head)
+fits : (c : tie.Else1) → Fits (c .before .before .before .before .args .head)
 fits c = sliced _ _ _ (opened _ _ (passed c) .0) .sizes
 
 -- once the job is worked out
@@ -50,7 +51,7 @@ module _ (c : tie.After-analyse) where
   solved-under = analyseVerdict head bytes ys 1 (pos 0) 2600 50 1300
 
   there : start .args .block < blocks head
-  there = omega (arith, c .before .before .before .before .if1 .left)
+  there = omega (arith, c .before .before .before .before .if2 .left)
 
   rooms : solved-under ≡ readingsVerdict head bytes ys
   rooms = spread-verdict head bytes ys
@@ -71,22 +72,22 @@ module _ (c : tie.After-analyse) where
 
 returns : tie.Need-returns
 returns c =
-    c .no-deviation .ensures
-    ∙ no-deviation-is _ _ _ _ _ _ (deviation-refused _ _ _ _ _ _ (sym (c .before .before .before .before .blocks-refusal .ensures) ∙ c .before .before .number .given .1))
+    let r = sym (c .before .before .is-refused .ensures) ∙ c .before .if1 .taken in
+    c .no-deviation .ensures ∙ no-deviation-is _ _ _ _ _ r (deviation-refused _ _ _ _ _ _ (sym (c .before .before .before .blocks-refusal .ensures) ∙ refusing _ r))
 
 returns-2 : tie.Need-returns-2
-returns-2 c = c .no-deviation2 .ensures ∙ no-deviation-is _ _ _ _ _ _ (deviation-no-block _ _ _ _ (passed (c .before .before .before)) (search needs))
+returns-2 c = c .no-deviation2 .ensures ∙ no-deviation-is _ _ _ _ (refused 5 _) refl (deviation-no-block _ _ _ _ (passed (c .before .before .before)) (search needs))
 
 returns-3 : tie.Need-returns-3
 returns-3 c =
-    let a = c .before .before .before .before .before .before .before in
-    c .no-deviation3 .ensures
-    ∙ no-deviation-is _ _ _ _ _ _ (deviation-readings _ _ _ _ (passed (c .before .before .before .before .before .before .before .before .before .before .before .before .before)) (there a) ∙ sym (solved-verdict a) ∙ c .before .before .verdict .given .1)
+    let a = c .before .before .before .before .before .before in
+    let r = sym (c .before .before .is-refused2 .ensures) ∙ c .before .if3 .taken in
+    c .no-deviation3 .ensures ∙ no-deviation-is _ _ _ _ _ r (deviation-readings _ _ _ _ (passed (a .before .before .before .before .before .before)) (there a) ∙ sym (solved-verdict a) ∙ refusing _ r)
 
 returns-4 : tie.Need-returns-4
 returns-4 c =
     let a = c .before .before .before .before .before .before in
-    let e = sym (solved-verdict a) ∙ c .before .enum-told2 .given .1 in
+    let e = sym (solved-verdict a) ∙ accepting _ (sym (c .before .before .is-refused2 .ensures) ∙ c .before .if3 .left) in
     deviation-is-given _ _ _ _ _ _ (deviation-readings _ _ _ _ (passed (c .before .before .before .before .before .before .before .before .before .before .before .before)) (there a) ∙ e)
     (read-back _ (c .numerator .given) ∙ numerator-is a e) (search (scale-is a e))
 
@@ -95,10 +96,9 @@ deviation-of-spec =
     tie.close
     (tie.spec
     (λ c κs. search needs)
-    (λ c. search needs)
+    (λ c κs. search needs)
     (λ c κs. search needs)
     returns
-    (λ c. search needs)
     (λ c. omega (arith, fits (c .before) .blocks-most))
     (λ c κs. search needs)
     returns-2
@@ -106,10 +106,9 @@ deviation-of-spec =
     (λ c. search needs)
     (λ c. search needs)
     (λ c κs. search needs)
-    (λ c. search needs)
+    (λ c κs. search needs)
     (λ c κs. search needs)
     returns-3
-    (λ c. search needs)
     (λ c. omega (arith, there (c .before .before .before .before .before), fits (c .before .before .before .before .before .before .before .before .before .before .before) .blocks-most))
     (λ c. omega (arith, there (c .before .before .before .before .before), fits (c .before .before .before .before .before .before .before .before .before .before .before) .blocks-most))
     returns-4)

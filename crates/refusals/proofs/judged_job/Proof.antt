@@ -54,19 +54,16 @@ returns c =
 
 returns-2 : tie.Need-returns-2
 returns-2 c =
-    let j = c .before .before .before in
-    let r = sym (c .before .before .is-refused2 .ensures) ∙ c .before .if2 .taken in (
-      c .no-judgement2 .ensures
-          ∙ no-judgement-is _ _ _ _ _ _ r (job-design _ _ _ _ _ (measured (lengths j)) _ _ (sym (judged-verdict j) ∙ refusing _ r)),
-      search (words j),
-    )
+    let j = c .before .before in
+    let e = sym (judged-verdict j) ∙ refusing _ (sym (c .before .is-refused2 .ensures) ∙ c .if2 .taken) in
+    (j .judge-developed .ensures .0 ∙ judgement-is _ _ _ _ _ e (job-design _ _ _ _ _ (measured (lengths j)) _ _ e), search (words j))
 
 returns-3 : tie.Need-returns-3
 returns-3 c =
     let t = c .before .before .before in
     let j = judgement t in
     let r = sym (c .before .before .is-refused3 .ensures) ∙ c .before .if3 .taken in (
-      c .no-judgement3 .ensures
+      c .no-judgement2 .ensures
           ∙ no-judgement-is _ _ _ _ _ _ r (job-restraint _ _ _ _ _ (measured (lengths j)) (balanced (t .before)) _ _ (restraint-is t ∙ refusing _ r)),
       search (words j),
     )
@@ -77,7 +74,7 @@ returns-4 c =
     let b = t .before .before .before .before in
     let j = b .before .before in
     let r = sym (c .before .before .is-refused4 .ensures) ∙ c .before .if4 .taken in (
-      c .no-judgement4 .ensures
+      c .no-judgement3 .ensures
           ∙ no-judgement-is _ _ _ _ _ _ r (job-reach _ _ _ _ _ (measured (lengths j)) (balanced b) (restrained (t .before)) ∙ sym (t .reach-refusal .ensures) ∙ refusing _ r),
       search (words j),
     )
@@ -101,7 +98,6 @@ judged-job-spec =
     (λ c κs. search needs)
     (λ c κs. search needs)
     returns
-    (λ c κs. search needs)
     (λ c κs. search needs)
     (λ c κs. search needs)
     returns-2

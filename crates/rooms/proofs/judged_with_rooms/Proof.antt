@@ -35,17 +35,15 @@ passed c = sym (judged-verdict (c .before .before)) ∙ accepting _ (sym (c .bef
 
 returns : tie.Need-returns
 returns c =
-    let j = c .before .before .before in
-    let s = start j in
-    let r = sym (c .before .before .is-refused .ensures) ∙ c .before .if1 .taken in
-    let e : tests s ≡ refused _ _ = sym (judged-verdict j) ∙ refusing _ r in
-    (c .no-judgement .ensures ∙ search (no-judgement-with _ _ _ _ _ _ _ _ (j .judged-job .result .verdict) r (analyse-refused _ _ _ _ _ (s .args .words) (s .args .values) (s .args .deviations) _ _ e)), search (j .judged-job .ensures .1))
+    let j = c .before .before in
+    let e : tests (start j) ≡ refused _ _ = sym (judged-verdict j) ∙ refusing _ (sym (c .before .is-refused .ensures) ∙ c .if1 .taken) in
+    (judgement j ∙ search (judgement-with _ _ _ _ _ (start j .args .words) (start j .args .values) (start j .args .deviations) e (analyse-refused _ _ _ _ _ _ _ _ _ _ e)), search (j .judged-job .ensures .1))
 
 returns-2 : tie.Need-returns-2
 returns-2 c =
     let t = c .before .before .before in
     let r = sym (c .before .before .is-refused2 .ensures) ∙ c .before .if2 .taken in (
-      c .no-judgement2 .ensures ∙ no-judgement-with _ _ _ _ _ _ _ _ _ r (analyse-rooms _ _ _ _ _ _ _ _ (passed (t .before)) ∙ sym (t .rooms-refusal .ensures) ∙ refusing _ r),
+      c .no-judgement .ensures ∙ no-judgement-with _ _ _ _ _ _ _ _ _ r (analyse-rooms _ _ _ _ _ _ _ _ (passed (t .before)) ∙ sym (t .rooms-refusal .ensures) ∙ refusing _ r),
       search (t .before .before .before .judged-job .ensures .1),
     )
 
@@ -53,13 +51,12 @@ returns-3 : tie.Need-returns-3
 returns-3 c =
     let t = c .before .before in
     let j = t .before .before .before in
-    (judgement j ∙ judgement-with _ _ _ _ _ _ _ _ (passed (t .before)) (sym (t .rooms-refusal .ensures) ∙ accepting _ (sym (c .before .is-refused2 .ensures) ∙ c .if2 .left)), search (j .judged-job .ensures .1))
+    (judgement j ∙ judgement-with _ _ _ _ _ _ _ _ (passed (t .before)) (analyse-rooms _ _ _ _ _ _ _ _ (passed (t .before)) ∙ sym (t .rooms-refusal .ensures) ∙ accepting _ (sym (c .before .is-refused2 .ensures) ∙ c .if2 .left)), search (j .judged-job .ensures .1))
 
 pub judged-with-rooms-spec : {M : Type 1} → statement M
 judged-with-rooms-spec =
     tie.close
     (tie.spec
-    (λ c κs. search needs)
     (λ c κs. search needs)
     (λ c κs. search needs)
     returns

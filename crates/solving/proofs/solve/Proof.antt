@@ -12,6 +12,7 @@ use Rattle.algebra.proofs.Filling.{over-long}
 use Rattle.meaning.specs.Refusals.{accepted}
 use Rattle.meaning.specs.File.{headOf, thirdAt, blocksOf, readingsOf, fields}
 use Rattle.laws.proofs.Files.{filed}
+use Rattle.verdicts.proofs.Told.{accepting}
 use Rattle.places.proofs.Places.{third-low, readings-most}
 use Rattle.places.proofs.Holding.{blocks-part, readings-part}
 use Rattle.solving.proofs.Holding.{solve-direct, solve-refused}
@@ -19,8 +20,8 @@ use Rattle.solving.proofs.solve.Statement.{statement}
 use Rattle.solving.proofs.solve.Tie as tie
 
 -- past the first test the fields are there
-passed : (c : tie.After-enum-told) → fields (now (c .before .before .before .before .before .args .bytes)) ≡ accepted
-passed c = sym (c .before .before .fields-refusal .ensures) ∙ c .enum-told .given .1
+passed : (c : tie.Else1) → fields (now (c .before .before .before .before .before .args .bytes)) ≡ accepted
+passed c = sym (c .before .before .fields-refusal .ensures) ∙ accepting _ (sym (c .before .is-refused .ensures) ∙ c .if1 .left)
 
 -- so the third field starts early
 low : (c : tie.After-third-at) → c .third-at .result ≤ 3210
@@ -28,10 +29,10 @@ low c = omega (arith, c .third-at .ensures, third-low (now (c .before .before .b
 
 returns : tie.Need-returns
 returns c =
-    let refusal = c .before .before .number .given in
-    let a = c .before .before .before .before .before .before .before .args in
-    let e = solve-refused (now (a .bytes)) (refusal .0 .0) (refusal .0 .1 .0) (sym (c .before .before .before .before .fields-refusal .ensures) ∙ refusal .1)
-    (length (now (a .words))) (length (now (a .values))) (length (now (a .deviations))) _ (now (a .words)) (now (a .values)) (now (a .deviations)) (c .unsolved .ensures) in
+    let t = c .before .before .before in
+    let a = t .before .before .before .args in
+    let e = solve-refused (now (a .bytes)) _ (t .fields-refusal .ensures) (sym (c .before .before .is-refused .ensures) ∙ c .before .if1 .taken)
+    (length (now (a .words))) (length (now (a .values))) (length (now (a .deviations))) _ (now (a .words)) (now (a .values)) (now (a .deviations)) (c .no-solution .ensures) in
     (search needs, (search needs, (search needs, search needs)))
 
 part-analyse-end : tie.Need-part-analyse-end
@@ -77,10 +78,9 @@ solve-spec =
     tie.close
     (tie.spec
     (λ c κs. search needs)
-    (λ c. search needs)
+    (λ c κs. search needs)
     (λ c κs. search needs)
     returns
-    (λ c. search needs)
     (λ c κs. search needs)
     (λ c κs. search needs)
     (λ c κs. search needs)

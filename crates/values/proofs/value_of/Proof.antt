@@ -1,6 +1,6 @@
 -- `value_of`: past its own tests the job decides, and the Value is made of the object's numerator. Assumes nothing.
 use borrow.Author.Needs.{needs}
-use mathlib.Core.Path.{_≡_, sym, ap, ap₂, _∙_}
+use mathlib.Core.Path.{_≡_, refl, sym, ap, ap₂, _∙_}
 use mathlib.Core.List.{List}
 use Prim.Native.Nat.{ℕ, _<_}
 use native.Mathlib.Omega.{arith}
@@ -17,18 +17,19 @@ use Rattle.records.specs.declared.Verdict.{Verdict}
 use Rattle.records.specs.declared.Solved.{Solved}
 use Rattle.meaning.specs.Design.{objects}
 use Rattle.meaning.specs.Analysis.{numeratorOf, denominatorOf}
-use Rattle.meaning.specs.Refusals.{_⨾_, accepted, clean}
+use Rattle.meaning.specs.Refusals.{_⨾_, accepted, refused, clean}
 use Rattle.meaning.specs.Calls.{slices, jobVerdict, analyseVerdict}
 use Rattle.laws.proofs.Chains.{job, opened, sliced, given-yes}
+use Rattle.verdicts.proofs.Told.{refusing, accepting}
 use Rattle.quotient.specs.Quotient.{valueFrom}
 use Rattle.values.proofs.Refusing.{job-verdict, value-refused, value-no-object, value-job, no-value-is, value-is-given, value-from-is}
 use Rattle.values.proofs.value_of.Statement.{statement}
 use Rattle.values.proofs.value_of.Tie as tie
 
 -- past the tests of the blocks
-passed : (c : tie.After-enum-told) →
+passed : (c : tie.Else1) →
     slices (c .before .before .before .before .args .head) (now (c .before .before .before .before .args .blocks)) (now (c .before .before .before .before .args .readings)) ⨾ clean (c .before .before .before .before .args .head) (now (c .before .before .before .before .args .blocks)) ≡ accepted
-passed c = sym (c .before .before .blocks-refusal .ensures) ∙ c .enum-told .given .1
+passed c = sym (c .before .before .blocks-refusal .ensures) ∙ accepting _ (sym (c .before .is-refused .ensures) ∙ c .if1 .left)
 
 -- once the job is worked out
 module _ (c : tie.After-analyse) where
@@ -48,7 +49,7 @@ module _ (c : tie.After-analyse) where
   tests = jobVerdict head bytes ys (start .args .set) (start .args .sum)
 
   there : start .args .object < objects head
-  there = omega (arith, c .before .before .before .before .if1 .left)
+  there = omega (arith, c .before .before .before .before .if2 .left)
 
   rooms : analyseVerdict head bytes ys (start .args .set) (start .args .sum) 2600 50 1300 ≡ tests
   rooms = job-verdict head bytes ys (start .args .set) (start .args .sum)
@@ -70,22 +71,22 @@ module _ (c : tie.After-analyse) where
 
 returns : tie.Need-returns
 returns c =
-    c .no-value .ensures
-    ∙ no-value-is _ _ _ _ _ _ _ _ (value-refused _ _ _ _ _ _ _ _ (sym (c .before .before .before .before .blocks-refusal .ensures) ∙ c .before .before .number .given .1))
+    let r = sym (c .before .before .is-refused .ensures) ∙ c .before .if1 .taken in
+    c .no-value .ensures ∙ no-value-is _ _ _ _ _ _ _ r (value-refused _ _ _ _ _ _ _ _ (sym (c .before .before .before .blocks-refusal .ensures) ∙ refusing _ r))
 
 returns-2 : tie.Need-returns-2
-returns-2 c = c .no-value2 .ensures ∙ no-value-is _ _ _ _ _ _ _ _ (value-no-object _ _ _ _ _ _ (passed (c .before .before .before)) (search needs))
+returns-2 c = c .no-value2 .ensures ∙ no-value-is _ _ _ _ _ _ (refused 5 _) refl (value-no-object _ _ _ _ _ _ (passed (c .before .before .before)) (search needs))
 
 returns-3 : tie.Need-returns-3
 returns-3 c =
-    let a = c .before .before .before .before .before .before .before in
-    c .no-value3 .ensures
-    ∙ no-value-is _ _ _ _ _ _ _ _ (value-job _ _ _ _ _ _ (passed (c .before .before .before .before .before .before .before .before .before .before .before .before .before)) (there a) ∙ sym (solved-verdict a) ∙ c .before .before .verdict .given .1)
+    let a = c .before .before .before .before .before .before in
+    let r = sym (c .before .before .is-refused2 .ensures) ∙ c .before .if3 .taken in
+    c .no-value3 .ensures ∙ no-value-is _ _ _ _ _ _ _ r (value-job _ _ _ _ _ _ (passed (a .before .before .before .before .before .before)) (there a) ∙ sym (solved-verdict a) ∙ refusing _ r)
 
 returns-4 : tie.Need-returns-4
 returns-4 c =
     let a = c .before .before .before .before .before .before .before in
-    let e = sym (solved-verdict a) ∙ c .before .before .enum-told2 .given .1 in
+    let e = sym (solved-verdict a) ∙ accepting _ (sym (c .before .before .before .is-refused2 .ensures) ∙ c .before .before .if3 .left) in
     let made : c .value-from .result ≡ valueFrom (toZ w64 (ofZ w64 (getD (a .analyse .last .1 .1 .1 .1 .1 .1 .0) (start a .args .object) (pos 0)))) (a .analyse .result .denominator) = search (c .value-from .ensures) in
     value-is-given _ _ _ _ _ _ _ (value-job _ _ _ _ _ _ (passed (c .before .before .before .before .before .before .before .before .before .before .before .before .before)) (there a) ∙ e)
     (made ∙ ap₂ valueFrom (read-back _ (c .before .value-from-arg .given) ∙ numerator-is a e) (denominator-is a e)
@@ -96,10 +97,9 @@ value-of-spec =
     tie.close
     (tie.spec
     (λ c κs. search needs)
-    (λ c. search needs)
+    (λ c κs. search needs)
     (λ c κs. search needs)
     returns
-    (λ c. search needs)
     (λ c. omega (arith, sliced _ _ _ (opened _ _ (passed (c .before)) .0) .sizes .objects-most))
     (λ c κs. search needs)
     returns-2
@@ -107,10 +107,9 @@ value-of-spec =
     (λ c. search needs)
     (λ c. search needs)
     (λ c κs. search needs)
-    (λ c. search needs)
+    (λ c κs. search needs)
     (λ c κs. search needs)
     returns-3
-    (λ c. search needs)
     (λ c. omega (arith, there (c .before .before .before .before .before), sliced _ _ _ (opened _ _ (passed (c .before .before .before .before .before .before .before .before .before .before .before)) .0) .sizes .objects-most))
     (λ c. omega (arith, there (c .before .before .before .before .before), sliced _ _ _ (opened _ _ (passed (c .before .before .before .before .before .before .before .before .before .before .before)) .0) .sizes .objects-most))
     (λ c κs. search needs)

@@ -1,0 +1,2 @@
+-- What a refusal hands back.
+pub mod Zeros

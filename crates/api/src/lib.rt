@@ -1,12 +1,12 @@
 // The bench for programs in C and Rust. Each exported function is one call of the bench: its refusal number is handed back, 0 where it accepts, and the rest of its
 // answer is laid into lent slots, as far as there are slots. hosts/bench.h says what stands in each.
-use laying::number;
-use laying::put_spread;
 use lengths::lay_listed;
 use lengths::lay_written;
 use records::Head;
 use slots::lay_judged;
 use slots::lay_solved;
+use spread_slot::put_spread;
+use telling::number;
 ghost use mathlib.Core.Path.{_≡_};
 ghost use lib.ListN.{length};
 ghost use Rattle.algebra.specs.Buffers.{over};

@@ -9,40 +9,8 @@ use denote.Triple.Clauses.{AtExit}
 use Rattle.laying.proofs.lay as lay
 use Rattle.laying.proofs.lay.Kinds as lay-kinds
 use Rattle.laying.proofs.lay.Reads as lay-reads
-use Rattle.laying.proofs.number as number
-use Rattle.laying.proofs.number.Kinds as number-kinds
-use Rattle.laying.proofs.number.Reads as number-reads
-use Rattle.laying.proofs.place as place
-use Rattle.laying.proofs.place.Kinds as place-kinds
-use Rattle.laying.proofs.place.Reads as place-reads
-use Rattle.laying.proofs.has_spread as has-spread
-use Rattle.laying.proofs.has_spread.Kinds as has-spread-kinds
-use Rattle.laying.proofs.has_spread.Reads as has-spread-reads
-use Rattle.laying.proofs.put_spread as put-spread
-use Rattle.laying.proofs.put_spread.Kinds as put-spread-kinds
-use Rattle.laying.proofs.put_spread.Reads as put-spread-reads
 
 -- of `lay`: the same answer after
 module _ (κs : Lfts 2) (a : ArgsD lay.signature κs) (r q : ResD lay.signature κs) (s t : AtExit (endedOf 2 lay-kinds.ps lay-kinds.r) κs) where
   pub lay-determined : lay-reads.Post κs a r s → lay-reads.Post κs a q t → now (s .1 .0) ≡ now (t .1 .0)
   lay-determined p e = p ∙ sym e
-
--- of `number`: the same number
-module _ (κs : Lfts 0) (a : ArgsD number.signature κs) (r q : ResD number.signature κs) (s t : AtExit (endedOf 0 number-kinds.ps number-kinds.r) κs) where
-  pub number-determined : number-reads.Post κs a r s → number-reads.Post κs a q t → r ≡ q
-  number-determined p e = p ∙ sym e
-
--- of `place`: the same place
-module _ (κs : Lfts 0) (a : ArgsD place.signature κs) (r q : ResD place.signature κs) (s t : AtExit (endedOf 0 place-kinds.ps place-kinds.r) κs) where
-  pub place-determined : place-reads.Post κs a r s → place-reads.Post κs a q t → r ≡ q
-  place-determined p e = p ∙ sym e
-
--- of `has_spread`: the same number
-module _ (κs : Lfts 0) (a : ArgsD has-spread.signature κs) (r q : ResD has-spread.signature κs) (s t : AtExit (endedOf 0 has-spread-kinds.ps has-spread-kinds.r) κs) where
-  pub has-spread-determined : has-spread-reads.Post κs a r s → has-spread-reads.Post κs a q t → r ≡ q
-  has-spread-determined p e = p ∙ sym e
-
--- of `put_spread`: the same slots after
-module _ (κs : Lfts 1) (a : ArgsD put-spread.signature κs) (r q : ResD put-spread.signature κs) (s t : AtExit (endedOf 1 put-spread-kinds.ps put-spread-kinds.r) κs) where
-  pub put-spread-determined : put-spread-reads.Post κs a r s → put-spread-reads.Post κs a q t → now (s .1 .0) ≡ now (t .1 .0)
-  put-spread-determined p e = p ∙ sym e

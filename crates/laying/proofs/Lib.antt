@@ -1,3 +1,3 @@
--- What laying slots rests on, and what the promises rule out.
+-- What laying slots rests on, and what the promise rules out.
 pub mod Laying
 pub mod Determined

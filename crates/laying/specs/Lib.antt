@@ -1,2 +1,2 @@
--- What laying slots leaves in an answer, and whether there is a spread as a number.
+-- What laying slots leaves in an answer.
 pub mod Laid

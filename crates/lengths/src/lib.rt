@@ -1,8 +1,8 @@
 // The length of a file that was written, and of a listing, laid into lent slots: a program in C gets back numbers only. hosts/bench.h says what stands in each.
 use laying::lay;
-use laying::place;
 use records::JobWritten;
 use records::Listed;
+use telling::place;
 ghost use mathlib.Core.Path.{_≡_};
 ghost use Rattle.laying.specs.Laid.{laid};
 ghost use Rattle.lengths.specs.Lengths.{writtenSlots, listedSlots};

@@ -6,7 +6,7 @@ use Rattle.records.specs.declared.Judged.{Judged}
 use Rattle.records.specs.declared.Solved.{Solved}
 use Rattle.records.specs.declared.Spreading.{Spreading}
 use Rattle.meaning.specs.Refusals.{place}
-use Rattle.laying.specs.Laid.{hasSpread}
+use Rattle.telling.specs.Told.{hasSpread}
 
 -- a judgement: place, v, b, r, p, L1, L2
 abbrev pub judgedSlots : Judged → List ℕ

@@ -1,9 +1,9 @@
 // A judgement and a job worked out, laid into lent slots: a program in C gets back numbers only. hosts/bench.h says what stands in each.
-use laying::has_spread;
 use laying::lay;
-use laying::place;
 use records::Judged;
 use records::Solved;
+use telling::has_spread;
+use telling::place;
 ghost use mathlib.Core.Path.{_≡_};
 ghost use Rattle.laying.specs.Laid.{laid};
 ghost use Rattle.slots.specs.Slots.{judgedSlots, solvedSlots};

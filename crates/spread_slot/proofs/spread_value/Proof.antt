@@ -1,10 +1,10 @@
--- `laying::spread_value` meets its contract: the bits of 0.0 are the float 0. Assumes nothing.
+-- `spread_slot::spread_value` meets its contract: the bits of 0.0 are the float 0. Assumes nothing.
 use mathlib.Core.Path.{sym, ap}
 use lib.Ieee.{ofBits}
 use Rattle.meaning.specs.Publishing.{spreadValue}
 use borrow.Author.Needs.{needs}
-use Rattle.laying.proofs.spread_value.Statement.{statement}
-use Rattle.laying.proofs.spread_value.Tie as tie
+use Rattle.spread_slot.proofs.spread_value.Statement.{statement}
+use Rattle.spread_slot.proofs.spread_value.Tie as tie
 
 returns-2 : tie.Need-returns-2
 unfolding ofBits

@@ -1,10 +1,10 @@
--- `laying::put_spread` meets its contract: a store at 0 is one turn over the slots; with no slot there is none. Assumes nothing.
+-- `spread_slot::put_spread` meets its contract: a store at 0 is one turn over the slots; with no slot there is none. Assumes nothing.
 use mathlib.Core.Path.{_∙_}
 use Rattle.algebra.proofs.Filling.{over-none, over-step, over-full}
 use native.Mathlib.Omega.{arith}
 use borrow.Author.Needs.{needs}
-use Rattle.laying.proofs.put_spread.Statement.{statement}
-use Rattle.laying.proofs.put_spread.Tie as tie
+use Rattle.spread_slot.proofs.put_spread.Statement.{statement}
+use Rattle.spread_slot.proofs.put_spread.Tie as tie
 
 returns : tie.Need-returns
 returns c = over-step 0 _ _ (over-none _ _) (c .spread-value .ensures) (c .before .if1 .taken)

@@ -1,0 +1,2 @@
+-- What the promise rules out.
+pub mod Determined

@@ -1,0 +1,2 @@
+-- What the promises rule out.
+pub mod Determined

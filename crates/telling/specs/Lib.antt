@@ -1,0 +1,2 @@
+-- Whether there is a spread, as a number.
+pub mod Told

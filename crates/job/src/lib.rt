@@ -2,6 +2,7 @@
 use bodies::block_count;
 use bodies::head_of;
 use bodies::third_at;
+use decoding::readings;
 use fields::fields_refusal;
 use places::moved;
 use places::set_of;
@@ -10,7 +11,6 @@ use records::Head;
 use records::JobRead;
 use records::Verdict;
 use refusals::refusal;
-use signed::readings;
 ghost use mathlib.Core.Path.{_≡_};
 ghost use mathlib.Core.List.{[]};
 ghost use Rattle.meaning.specs.Refusals.{accepted, refused};

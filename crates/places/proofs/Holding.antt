@@ -8,7 +8,7 @@ use lib.ListN.{length, take, drop}
 use Rattle.algebra.specs.Buffers.{over}
 use Rattle.meaning.specs.Design.{blocks, listLength}
 use Rattle.meaning.specs.File.{big, twos, numbersAt, headOf, thirdAt, readingsAt, blocksOf, readingsOf}
-use Rattle.signed.proofs.Rows.{take-numbers}
+use Rattle.decoding.proofs.Rows.{take-numbers}
 
 -- the bytes from place 10 up to the third field are the blocks
 pub blocks-part : (s : List ℕ) (third : ℕ) → third ≡ thirdAt s → take (third - 10) (drop 10 s) ≡ blocksOf s

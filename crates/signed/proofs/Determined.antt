@@ -4,16 +4,12 @@ use contract.Lifetimes.{Lfts}
 use borrow.Fn.World.{ArgsD, ResD}
 use denote.Triple.Clauses.{AtExit}
 use borrow.Fn.Kinds.{endedOf}
-use denote.Ref.{now}
 use Rattle.signed.proofs.signed_32 as signed-32
 use Rattle.signed.proofs.signed_32.Kinds as signed-32-kinds
 use Rattle.signed.proofs.signed_32.Reads as signed-32-contract
 use Rattle.signed.proofs.signed_64 as signed-64
 use Rattle.signed.proofs.signed_64.Kinds as signed-64-kinds
 use Rattle.signed.proofs.signed_64.Reads as signed-64-contract
-use Rattle.signed.proofs.readings as readings
-use Rattle.signed.proofs.readings.Kinds as readings-kinds
-use Rattle.signed.proofs.readings.Reads as readings-contract
 
 -- two answers that `signed_32` may give are the same
 module _ (κs : Lfts 1) (a : ArgsD signed-32.signature κs) (r q : ResD signed-32.signature κs) (s t : AtExit (endedOf 1 signed-32-kinds.ps signed-32-kinds.r) κs) where
@@ -24,8 +20,3 @@ module _ (κs : Lfts 1) (a : ArgsD signed-32.signature κs) (r q : ResD signed-3
 module _ (κs : Lfts 1) (a : ArgsD signed-64.signature κs) (r q : ResD signed-64.signature κs) (s t : AtExit (endedOf 1 signed-64-kinds.ps signed-64-kinds.r) κs) where
   pub signed-64-determined : signed-64-contract.Post κs a r s → signed-64-contract.Post κs a q t → r ≡ q
   signed-64-determined p e = p ∙ sym e
-
--- two rooms that `readings` may leave are the same
-module _ (κs : Lfts 2) (a : ArgsD readings.signature κs) (r q : ResD readings.signature κs) (s t : AtExit (endedOf 2 readings-kinds.ps readings-kinds.r) κs) where
-  pub readings-determined : readings-contract.Post κs a r s → readings-contract.Post κs a q t → now (s .1 .1 .1 .0) ≡ now (t .1 .1 .1 .0)
-  readings-determined p e = p ∙ sym e

@@ -1,4 +1,3 @@
--- The laws of signed numbers in bytes and of a row of them, and what the promises determine.
+-- The laws of signed numbers in bytes, and what the promises determine.
 pub mod Halves
-pub mod Rows
 pub mod Determined

@@ -1,4 +1,4 @@
--- `signed::readings` meets its contract: the room so far is the entries passed, written over its start (`over`); a room that is full stays.
+-- `decoding::readings` meets its contract: the room so far is the entries passed, written over its start (`over`); a room that is full stays.
 -- Assumes nothing.
 use native.Mathlib.Omega.{arith}
 use mathlib.Core.Path.{_≡_, refl, _∙_}
@@ -10,9 +10,9 @@ use denote.Ref.{now}
 use borrow.Author.Needs.{needs}
 use Rattle.algebra.specs.Buffers.{over}
 use Rattle.algebra.proofs.Filling.{over-none, over-step, over-end, over-full}
-use Rattle.signed.proofs.Rows.{numberOf}
-use Rattle.signed.proofs.readings.Statement.{statement}
-use Rattle.signed.proofs.readings.Tie as tie
+use Rattle.decoding.proofs.Rows.{numberOf}
+use Rattle.decoding.proofs.readings.Statement.{statement}
+use Rattle.decoding.proofs.readings.Tie as tie
 
 abbrev Inv-loop : tie.InvT-loop
 Inv-loop bytes place count out₀ i₀ out i = (i ≤ count) × (length out ≡ length out₀) × (out ≡ over i (numberOf bytes place) out₀)

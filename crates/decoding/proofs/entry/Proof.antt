@@ -1,12 +1,12 @@
--- `signed::entry` meets its contract: past the end the number is 0, and a place that is not past it leaves room for the product and the sum.
+-- `decoding::entry` meets its contract: past the end the number is 0, and a place that is not past it leaves room for the product and the sum.
 -- Assumes nothing.
 use native.Mathlib.Omega.{arith}
 use Prim.Native.Nat.{_+_, _*_}
 use denote.Ref.{now}
 use borrow.Author.Needs.{needs}
 use Rattle.numbers.proofs.Bytes.{big-past}
-use Rattle.signed.proofs.entry.Statement.{statement}
-use Rattle.signed.proofs.entry.Tie as tie
+use Rattle.decoding.proofs.entry.Statement.{statement}
+use Rattle.decoding.proofs.entry.Tie as tie
 
 returns : tie.Need-returns
 returns c = let a = c .before .before .args in rw (big-past (now (a .bytes)) (a .place + 4 * a .i) 4 (omega arith))

@@ -16,7 +16,7 @@ fn put_values(out: &mut [u8], at: usize, numerators: &[i64], denominator: u64) -
     while i < numerators.len() {
         let numerator = numerators[i];
         let hundredths = quotient::hundredths(numerator, denominator);
-        place = figures::put_value(out, place, i, numerator, denominator, hundredths);
+        place = value_line::put_value(out, place, i, numerator, denominator, hundredths);
         i += 1;
     }
     place
@@ -30,7 +30,7 @@ fn put_deviations(out: &mut [u8], at: usize, numerators: &[i64], denominator: u6
     let mut k: usize = 0;
     while k < numerators.len() {
         let numerator = numerators[k];
-        place = figures::put_deviation(out, place, k, numerator, denominator);
+        place = deviation_line::put_deviation(out, place, k, numerator, denominator);
         k += 1;
     }
     place
@@ -45,7 +45,7 @@ fn put_job(out: &mut [u8], at: usize, solved: Solved, values: &[i64], deviations
     let after_design = lines::put_design(out, at, parameters);
     let after_values = put_values(out, after_design, values, solved.denominator);
     let after_deviations = put_deviations(out, after_values, deviations, spreading.vbeta);
-    figures::put_spread(out, after_deviations, spreading)
+    spread_line::put_spread(out, after_deviations, spreading)
 }
 
 // The listing, or the line of the refusal.

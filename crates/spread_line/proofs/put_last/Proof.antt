@@ -1,9 +1,9 @@
--- `figures::put_last` meets its contract: each arm puts what the last word is for its case. Assumes nothing.
+-- `spread_line::put_last` meets its contract: each arm puts what the last word is for its case. Assumes nothing.
 use Rattle.meaning.specs.Text.{ascii}
 use Rattle.algebra.proofs.Writing.{named}
 use borrow.Author.Needs.{needs}
-use Rattle.figures.proofs.put_last.Statement.{statement}
-use Rattle.figures.proofs.put_last.Tie as tie
+use Rattle.spread_line.proofs.put_last.Statement.{statement}
+use Rattle.spread_line.proofs.put_last.Tie as tie
 
 returns : tie.Need-returns
 returns c =

@@ -1,10 +1,10 @@
--- `figures::put_value` meets its contract: its word, four numbers, two of them signed, a newline. Assumes nothing.
+-- `value_line::put_value` meets its contract: its word, four numbers, two of them signed, a newline. Assumes nothing.
 use Rattle.algebra.proofs.Writing.{_then_, named}
 use mir.Facts.{toZ-ofZ}
 use Rattle.meaning.specs.Text.{ascii}
 use borrow.Author.Needs.{needs}
-use Rattle.figures.proofs.put_value.Statement.{statement}
-use Rattle.figures.proofs.put_value.Tie as tie
+use Rattle.value_line.proofs.put_value.Statement.{statement}
+use Rattle.value_line.proofs.put_value.Tie as tie
 
 returns : tie.Need-returns
 unfolding ascii

@@ -1,9 +1,9 @@
--- `figures::put_spread` meets its contract: its word, three numbers, the last word, a newline. Assumes nothing.
+-- `spread_line::put_spread` meets its contract: its word, three numbers, the last word, a newline. Assumes nothing.
 use Rattle.algebra.proofs.Writing.{_then_, named}
 use Rattle.meaning.specs.Text.{ascii}
 use borrow.Author.Needs.{needs}
-use Rattle.figures.proofs.put_spread.Statement.{statement}
-use Rattle.figures.proofs.put_spread.Tie as tie
+use Rattle.spread_line.proofs.put_spread.Statement.{statement}
+use Rattle.spread_line.proofs.put_spread.Tie as tie
 
 returns : tie.Need-returns
 unfolding ascii

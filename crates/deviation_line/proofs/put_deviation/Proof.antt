@@ -1,10 +1,10 @@
--- `figures::put_deviation` meets its contract: its word, three numbers, the second signed, a newline. Assumes nothing.
+-- `deviation_line::put_deviation` meets its contract: its word, three numbers, the second signed, a newline. Assumes nothing.
 use Rattle.algebra.proofs.Writing.{_then_, named}
 use mir.Facts.{toZ-ofZ}
 use Rattle.meaning.specs.Text.{ascii}
 use borrow.Author.Needs.{needs}
-use Rattle.figures.proofs.put_deviation.Statement.{statement}
-use Rattle.figures.proofs.put_deviation.Tie as tie
+use Rattle.deviation_line.proofs.put_deviation.Statement.{statement}
+use Rattle.deviation_line.proofs.put_deviation.Tie as tie
 
 returns : tie.Need-returns
 unfolding ascii

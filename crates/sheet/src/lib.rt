@@ -42,7 +42,7 @@ fn put_job(out: &mut [u8], at: usize, solved: Solved, values: &[i64], deviations
 {
     let parameters = solved.parameters;
     let spreading = solved.spreading;
-    let after_design = lines::put_design(out, at, parameters);
+    let after_design = design_line::put_design(out, at, parameters);
     let after_values = put_values(out, after_design, values, solved.denominator);
     let after_deviations = put_deviations(out, after_values, deviations, spreading.vbeta);
     spread_line::put_spread(out, after_deviations, spreading)
@@ -55,7 +55,7 @@ fn put_sheet(out: &mut [u8], at: usize, solved: Solved, values: &[i64], deviatio
     let verdict = solved.verdict;
     match verdict {
         Verdict::Accepted => put_job(out, at, solved, values, deviations),
-        Verdict::Refused(number, place) => lines::put_refused(out, at, number, place),
+        Verdict::Refused(number, place) => refusal_line::put_refused(out, at, number, place),
     }
 }
 

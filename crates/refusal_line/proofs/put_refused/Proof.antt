@@ -1,9 +1,9 @@
--- `lines::put_refused` meets its contract: its word, two numbers, a newline. Assumes nothing.
+-- `refusal_line::put_refused` meets its contract: its word, two numbers, a newline. Assumes nothing.
 use Rattle.algebra.proofs.Writing.{_then_, named}
 use Rattle.meaning.specs.Text.{ascii}
 use borrow.Author.Needs.{needs}
-use Rattle.lines.proofs.put_refused.Statement.{statement}
-use Rattle.lines.proofs.put_refused.Tie as tie
+use Rattle.refusal_line.proofs.put_refused.Statement.{statement}
+use Rattle.refusal_line.proofs.put_refused.Tie as tie
 
 returns : tie.Need-returns
 unfolding ascii

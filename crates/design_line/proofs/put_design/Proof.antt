@@ -1,9 +1,9 @@
--- `lines::put_design` meets its contract: its word, six numbers, a newline. Assumes nothing.
+-- `design_line::put_design` meets its contract: its word, six numbers, a newline. Assumes nothing.
 use Rattle.algebra.proofs.Writing.{_then_, named}
 use Rattle.meaning.specs.Text.{ascii}
 use borrow.Author.Needs.{needs}
-use Rattle.lines.proofs.put_design.Statement.{statement}
-use Rattle.lines.proofs.put_design.Tie as tie
+use Rattle.design_line.proofs.put_design.Statement.{statement}
+use Rattle.design_line.proofs.put_design.Tie as tie
 
 returns : tie.Need-returns
 unfolding ascii

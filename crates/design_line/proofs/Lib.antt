@@ -1,0 +1,2 @@
+-- What determines the outcome of the public function.
+pub mod Determined

@@ -1,2 +1,0 @@
--- What determines the outcome of each public function.
-pub mod Determined

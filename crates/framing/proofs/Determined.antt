@@ -7,16 +7,8 @@ use borrow.Fn.Kinds.{endedOf}
 use Rattle.framing.proofs.field_at as field-at
 use Rattle.framing.proofs.field_at.Kinds as field-at-kinds
 use Rattle.framing.proofs.field_at.Reads as field-at-contract
-use Rattle.framing.proofs.past_at as past-at
-use Rattle.framing.proofs.past_at.Kinds as past-at-kinds
-use Rattle.framing.proofs.past_at.Reads as past-at-contract
 
 -- two answers that `field_at` may give are the same
 module _ (κs : Lfts 1) (a : ArgsD field-at.signature κs) (r q : ResD field-at.signature κs) (s t : AtExit (endedOf 1 field-at-kinds.ps field-at-kinds.r) κs) where
   pub field-at-determined : field-at-contract.Post κs a r s → field-at-contract.Post κs a q t → r ≡ q
   field-at-determined p e = p ∙ sym e
-
--- two places that `past_at` may give are the same
-module _ (κs : Lfts 1) (a : ArgsD past-at.signature κs) (r q : ResD past-at.signature κs) (s t : AtExit (endedOf 1 past-at-kinds.ps past-at-kinds.r) κs) where
-  pub past-at-determined : past-at-contract.Post κs a r s → past-at-contract.Post κs a q t → r ≡ q
-  past-at-determined p e = p ∙ sym e

@@ -2,7 +2,7 @@
 use numbers::two_bytes;
 use records::Field;
 ghost use mathlib.Core.Path.{_≡_};
-ghost use Rattle.meaning.specs.File.{fieldAt, fieldNext};
+ghost use Rattle.meaning.specs.File.{fieldAt};
 
 // The field at a place of plain bytes. No place wraps: the start is looked for by what is left before the end.
 pub fn field_at(bytes: &[u8], place: usize, tag: u8, length: usize) -> Field
@@ -28,14 +28,4 @@ pub fn field_at(bytes: &[u8], place: usize, tag: u8, length: usize) -> Field
         return Field::Body(start, next);
     }
     Field::Unfit(1, place)
-}
-
-// The place past that field; a refusal leaves the place as it is.
-pub fn past_at(bytes: &[u8], place: usize, tag: u8, length: usize) -> usize
-    ensures { λ r. ⌜ r ≡ fieldNext (fieldAt (now (bytes .entry)) place tag length) place ⌝ }
-{
-    match field_at(bytes, place, tag, length) {
-        Field::Body(_, next) => next,
-        Field::Unfit(_, _) => place,
-    }
 }

@@ -1,6 +1,6 @@
 // A reader of a job file: the lent bytes and a place. Its functions take it apart and call the two functions on plain bytes that they stand on.
+use following::past_at;
 use framing::field_at;
-use framing::past_at;
 use records::Field;
 ghost use mathlib.Core.Path.{_≡_};
 ghost use Rattle.meaning.specs.File.{fieldAt, fieldNext};

@@ -47,10 +47,10 @@ use Rattle.meaning.specs.File.{fieldAt, fieldNext}
 use Rattle.reader.specs.declared.Reader.{Reader}
 use Rattle.reader.proofs.Reader as T
 use Rattle.reader.proofs.Reader.Laws as T′
-use Rattle.framing.proofs.past_at as step
-use Rattle.framing.proofs.past_at.Symbol as step-def
-use Rattle.framing.proofs.past_at.Symbol.{name as #framing·past-at}
-use Rattle.framing.proofs.past_at.Met as step-thm
+use Rattle.following.proofs.past_at as step
+use Rattle.following.proofs.past_at.Symbol as step-def
+use Rattle.following.proofs.past_at.Symbol.{name as #following·past-at}
+use Rattle.following.proofs.past_at.Met as step-thm
 use Rattle.reader.proofs.past.Key.{name as #reader·past}
 use Rattle.reader.proofs.past as past
 use Rattle.reader.proofs.past.Statement as stated
@@ -135,7 +135,7 @@ module _ {M : Type 1} (𝓤 : URA M) (H : Heap 𝓤) (A : Atoms 𝓤) (W : Given
       -- [what the struct owns]: the number's facts take the place of place's
       owned ! usize (Is usize) (uint-makes 𝓤 H A W w64) k _ (refl, ok) $ move ! (1 ∷ 0 ∷ []) $ by ! (own-put 𝓤 H A W D L 1 vd k mach)
 
-  module _ (C : Calls 𝓤 H) (Λ : Loops 𝓤 H) (fm : FmC 𝓤 H (W .laws) C) (known : Triple 𝓤 (C #framing·past-at) (PastAt 𝓤 H A mem run)) where
+  module _ (C : Calls 𝓤 H) (Λ : Loops 𝓤 H) (fm : FmC 𝓤 H (W .laws) C) (known : Triple 𝓤 (C #following·past-at) (PastAt 𝓤 H A mem run)) where
     walk : Holds (hasTy (T′.mir (named 0)) mach) × WT mach → ent 𝓤 (onEntry 𝓤 H A past.signature (κ, tt) (q, tt) (d, (g, (n, tt))) at) (WpFn 𝓤 H C Λ code.function (mach ∷ vint w8 g ∷ vint w64 n ∷ []) Post)
     walk wt =
         qed W (raw (onEntry 𝓤 H A past.signature (κ, tt) (q, tt) (d, (g, (n, tt))) at) ∷ []) ∵ enter ! C Λ code.function (mach ∷ vint w8 g ∷ vint w64 n ∷ []) _ $
@@ -156,13 +156,13 @@ module _ {M : Type 1} (𝓤 : URA M) (H : Heap 𝓤) (A : Atoms 𝓤) (W : Given
         by ! (exits r u e (is .1))))))))))))))
 
 module _ {M : Type 1} (𝓤 : URA M) (H : Heap 𝓤) (A : Atoms 𝓤) (W : Given 𝓤 H A) (mem : Memory → SProp 𝓤) (run : Routine → Fun 𝓤) where
-  past-walks : (C : Calls 𝓤 H) (Λ : Loops 𝓤 H) → FmC 𝓤 H (W .laws) C → Triple 𝓤 (C #framing·past-at) (PastAt 𝓤 H A mem run)
+  past-walks : (C : Calls 𝓤 H) (Λ : Loops 𝓤 H) → FmC 𝓤 H (W .laws) C → Triple 𝓤 (C #following·past-at) (PastAt 𝓤 H A mem run)
       → Walks 𝓤 H A past.ended stayed (WpFn 𝓤 H C Λ code.function) (past.clauses 𝓤 H A mem run)
   past-walks C Λ fm known = walked 𝓤 H A past.ended stayed (past.clauses 𝓤 H A mem run) (WpFn 𝓤 H C Λ code.function) (λ κs. (LL.vals (T.the-type (namedLft 1 0 tt κs)) (T′.the-laws (namedLft 1 0 tt κs)), (uint-vals w8, (uint-vals w64, tt)))) (λ κs. (LL.tells (T.the-type (namedLft 1 0 tt κs)) (T′.the-laws (namedLft 1 0 tt κs)), (uint-tells w8, (uint-tells w64, tt))))
       (λ κs qs bounds a g are. via 𝓤 _ (fst∗ 𝓤 _ (emp 𝓤)) (walk 𝓤 H A W mem run (κs .0) (qs .0) (a .0) (a .1 .0) (a .1 .1 .0) (are .1 .0 .1) (are .1 .1 .0 .1) C Λ fm known (LL.lawful (T.the-type (namedLft 1 0 tt κs)) (T′.the-laws (namedLft 1 0 tt κs)) 𝓤 H A W .typed (a .0) _ (are .0) .0)))
 
 past-meets : {M : Type 1} (𝓤 : URA M) (H : Heap 𝓤) (A : Atoms 𝓤) (W : Given 𝓤 H A) (mem : Memory → SProp 𝓤) (run : Routine → Fun 𝓤) (𝓣 : Tables 𝓤 H)
-    → Triple 𝓤 (𝓣 .C #framing·past-at) (PastAt 𝓤 H A mem run)
+    → Triple 𝓤 (𝓣 .C #following·past-at) (PastAt 𝓤 H A mem run)
     → Meets 𝓤 H A past.signature (WpFn 𝓤 H (𝓣 .C) (𝓣 .Λ) code.function) (past.spec 𝓤 H A mem run)
 past-meets 𝓤 H A W mem run 𝓣 known-step = walk-meets 𝓤 H A past.ended stayed W (goes-none 𝓤 H A W 1 B yes (λ κs x f. refl), (goes-none 𝓤 H A W 1 (λ _. u8) yes (λ κs x f. refl), (goes-none 𝓤 H A W 1 (λ _. usize) yes (λ κs x f. refl), tt))) (past.clauses 𝓤 H A mem run) (WpFn 𝓤 H (𝓣 .C) (𝓣 .Λ) code.function) (WpFn-mono 𝓤 H (W .laws) 𝓣 code.function)
     (past-walks 𝓤 H A W mem run (𝓣 .C) (𝓣 .Λ) (fmOf 𝓤 H (W .laws) 𝓣) known-step)
@@ -173,4 +173,4 @@ past-spec 𝓤 H 𝓜 𝓖 𝓡 =
     entered 𝓤 H (tripleOf 𝓤 H (𝓖 .A) past.signature (past.spec 𝓤 H (𝓖 .A) (𝓜 .mem) (𝓡 .run)))
     (tables 𝓤 H 𝓜 𝓡 code.env .C) (tables 𝓤 H 𝓜 𝓡 code.env .Λ) #reader·past code.function (code.unfolded 𝓤 H 𝓜 𝓡)
     (past-meets 𝓤 H (𝓖 .A) (givenOf 𝓤 H 𝓜 𝓖) (𝓜 .mem) (𝓡 .run) (tablesOf 𝓤 H 𝓜 (tables 𝓤 H 𝓜 𝓡 code.env))
-    (cited 𝓤 H (PastAt 𝓤 H (𝓖 .A) (𝓜 .mem) (𝓡 .run)) 𝓜 𝓡 code.env #framing·past-at step-def.routine code.calls-framing·past-at (step-thm.met 𝓤 H 𝓜 𝓖 𝓡)))
+    (cited 𝓤 H (PastAt 𝓤 H (𝓖 .A) (𝓜 .mem) (𝓡 .run)) 𝓜 𝓡 code.env #following·past-at step-def.routine code.calls-following·past-at (step-thm.met 𝓤 H 𝓜 𝓖 𝓡)))

@@ -1,10 +1,10 @@
--- `framing::past_at` meets its contract: each arm is told which answer `field_at` gave.
+-- `following::past_at` meets its contract: each arm is told which answer `field_at` gave.
 -- Assumes nothing.
 use mathlib.Core.Path.{sym, _∙_}
 use native.Mathlib.Omega.{arith}
 use borrow.Author.Needs.{needs}
-use Rattle.framing.proofs.past_at.Statement.{statement}
-use Rattle.framing.proofs.past_at.Tie as tie
+use Rattle.following.proofs.past_at.Statement.{statement}
+use Rattle.following.proofs.past_at.Tie as tie
 
 returns : tie.Need-returns
 returns c = rw (sym (c .before .before .before .field-at .ensures) ∙ c .before .next .given .1) (omega arith)

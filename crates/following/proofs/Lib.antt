@@ -1,0 +1,2 @@
+-- What the promise determines.
+pub mod Determined

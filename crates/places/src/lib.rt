@@ -1,26 +1,9 @@
-// Places in a job file: its restraint, read from where it stands, and a direct call's refusal moved to its own place. Each for any bytes.
+// Places in a job file: a direct call's refusal moved to its own place, for any bytes.
 use bodies::third_at;
-use numbers::eight_bytes;
 use records::Verdict;
-use signed::signed_64;
 ghost use mathlib.Core.Path.{_≡_};
 ghost use Rattle.meaning.specs.Refusals.{refused, place};
-ghost use Rattle.meaning.specs.File.{setOf, sumOf};
 ghost use Rattle.places.specs.Moved.{movedIn};
-
-// The restraint set.
-pub fn set_of(bytes: &[u8]) -> u64
-    ensures { λ r. ⌜ r ≡ setOf (now (bytes .entry)) ⌝ }
-{
-    eight_bytes(bytes, third_at(bytes) + 3)
-}
-
-// Its accepted sum.
-pub fn sum_of(bytes: &[u8]) -> i64
-    ensures { λ r. ⌜ r ≡ sumOf (now (bytes .entry)) ⌝ }
-{
-    signed_64(bytes, third_at(bytes) + 11)
-}
 
 // A direct call's verdict moved to its place in the file.
 pub fn moved(bytes: &[u8], verdict: Verdict) -> Verdict

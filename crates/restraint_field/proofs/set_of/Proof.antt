@@ -1,11 +1,11 @@
--- `places::set_of` meets its contract: the set stands three bytes after the third field's start, and no place wraps.
+-- `restraint_field::set_of` meets its contract: the set stands three bytes after the third field's start, and no place wraps.
 -- Assumes nothing.
 use native.Mathlib.Omega.{arith}
 use borrow.Author.Needs.{needs}
 use denote.Ref.{now}
 use Rattle.places.proofs.Places.{third-bound}
-use Rattle.places.proofs.set_of.Statement.{statement}
-use Rattle.places.proofs.set_of.Tie as tie
+use Rattle.restraint_field.proofs.set_of.Statement.{statement}
+use Rattle.restraint_field.proofs.set_of.Tie as tie
 
 add-eight-bytes : tie.Need-add-eight-bytes
 add-eight-bytes c = omega (arith, c .third-at .ensures, third-bound (now (c .before .before .args .bytes)) (c .before .shared-slice-known .given 5) (c .before .shared-slice-known .given 6))

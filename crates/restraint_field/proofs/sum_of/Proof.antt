@@ -1,12 +1,12 @@
--- `places::sum_of` meets its contract: the sum stands eight bytes after the set, and no place wraps.
+-- `restraint_field::sum_of` meets its contract: the sum stands eight bytes after the set, and no place wraps.
 -- Assumes nothing.
 use native.Mathlib.Omega.{arith}
 use borrow.Author.Needs.{needs}
 use denote.Ref.{now}
 use Rattle.algebra.proofs.Signs.{read-back}
 use Rattle.places.proofs.Places.{third-bound}
-use Rattle.places.proofs.sum_of.Statement.{statement}
-use Rattle.places.proofs.sum_of.Tie as tie
+use Rattle.restraint_field.proofs.sum_of.Statement.{statement}
+use Rattle.restraint_field.proofs.sum_of.Tie as tie
 
 add-signed-64 : tie.Need-add-signed-64
 add-signed-64 c = omega (arith, c .third-at .ensures, third-bound (now (c .before .before .args .bytes)) (c .before .shared-slice-known .given 5) (c .before .shared-slice-known .given 6))

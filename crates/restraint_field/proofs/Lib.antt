@@ -1,0 +1,2 @@
+-- What the promises determine.
+pub mod Determined

@@ -1,3 +1,3 @@
--- The laws of numbers in bytes, and what the promises determine.
+-- The law of numbers in bytes past the end, and what the promises determine.
 pub mod Bytes
 pub mod Determined

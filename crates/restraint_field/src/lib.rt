@@ -1,7 +1,7 @@
 // The restraint that a job file holds: its set and its sum, each read from where it stands, for any bytes.
 use bodies::third_at;
-use numbers::eight_bytes;
 use signed::signed_64;
+use wide_numbers::eight_bytes;
 ghost use mathlib.Core.Path.{_≡_};
 ghost use Rattle.meaning.specs.File.{setOf, sumOf};
 

@@ -1,6 +1,6 @@
 // Signed numbers in bytes, the highest byte first, for any slice and any place: what stands past the end reads as 0.
-use numbers::eight_bytes;
-use numbers::four_bytes;
+use wide_numbers::eight_bytes;
+use wide_numbers::four_bytes;
 ghost use mathlib.Core.Path.{_≡_};
 ghost use Rattle.meaning.specs.File.{big, twos};
 

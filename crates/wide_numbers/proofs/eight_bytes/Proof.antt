@@ -1,12 +1,13 @@
--- `numbers::eight_bytes` meets its contract: four and four bytes (`big-split`), and past the end all are 0.
+-- `wide_numbers::eight_bytes` meets its contract: four and four bytes (`big-split`), and past the end all are 0.
 -- Assumes nothing.
 use native.Mathlib.Omega.{arith}
 use mathlib.Core.Path.{sym}
 use denote.Ref.{now}
 use borrow.Author.Needs.{needs}
-use Rattle.numbers.proofs.Bytes.{big-past, big-split}
-use Rattle.numbers.proofs.eight_bytes.Statement.{statement}
-use Rattle.numbers.proofs.eight_bytes.Tie as tie
+use Rattle.numbers.proofs.Bytes.{big-past}
+use Rattle.wide_numbers.proofs.Parts.{big-split}
+use Rattle.wide_numbers.proofs.eight_bytes.Statement.{statement}
+use Rattle.wide_numbers.proofs.eight_bytes.Tie as tie
 
 returns : tie.Need-returns
 returns c = let a = c .before .before .args in sym (big-past (now (a .bytes)) (a .place) 8 (omega arith))

@@ -1,12 +1,13 @@
--- `numbers::four_bytes` meets its contract: two and two bytes (`big-split`), and past the end all are 0.
+-- `wide_numbers::four_bytes` meets its contract: two and two bytes (`big-split`), and past the end all are 0.
 -- Assumes nothing.
 use native.Mathlib.Omega.{arith}
 use mathlib.Core.Path.{sym}
 use denote.Ref.{now}
 use borrow.Author.Needs.{needs}
-use Rattle.numbers.proofs.Bytes.{big-past, big-split}
-use Rattle.numbers.proofs.four_bytes.Statement.{statement}
-use Rattle.numbers.proofs.four_bytes.Tie as tie
+use Rattle.numbers.proofs.Bytes.{big-past}
+use Rattle.wide_numbers.proofs.Parts.{big-split}
+use Rattle.wide_numbers.proofs.four_bytes.Statement.{statement}
+use Rattle.wide_numbers.proofs.four_bytes.Tie as tie
 
 returns : tie.Need-returns
 returns c = let a = c .before .before .args in sym (big-past (now (a .bytes)) (a .place) 4 (omega arith))

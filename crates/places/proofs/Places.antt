@@ -3,14 +3,11 @@ use Prim.Native.Nat.{ℕ, _+_, _*_, _^_, _≤_, _<_}
 use mathlib.Core.Path.{_≡_, refl}
 use mathlib.Core.Bool.{Bool, true, false, cond, _&&_}
 use mathlib.Core.List.{List}
-use native.Mathlib.Nat.{mul-le-mul}
 use native.Mathlib.Omega.{arith}
 use borrow.Author.Tests.{eq-eqb, ne-eqb, le-leb, lt-leb}
 use lib.Dec.{eqb, leb, ltb}
 use lib.IntN.{ℤ, natAbs}
-use lib.ListN.{length, getD}
-use mir.Syntax.{w8}
-use mir.Val.{Fits}
+use lib.ListN.{length}
 use Rattle.algebra.proofs.Tests.{first-bounds}
 use Rattle.records.specs.declared.Head.{Head}
 use Rattle.records.specs.declared.Verdict.{Verdict}
@@ -99,13 +96,6 @@ moved-place s k i = go (leb i placeLimit)
     go : (b : Bool) → refused k (place (cond b (placed s (refused k i)) (refused k i))) ≡ cond b (placed s (refused k i)) (refused k i)
     go true = refl
     go false = refl
-
--- a size is a byte, so the third field of any file starts within these bytes
-pub third-bound : (s : List ℕ) → Fits w8 (getD s 5 0) → Fits w8 (getD s 6 0) → thirdAt s ≤ 130060
-third-bound s p m =
-    let side : 2 * getD s 5 0 ≤ 510 = omega (arith, p) in
-    let lists : getD s 6 0 ≤ 255 = omega (arith, m) in
-    omega (arith, mul-le-mul side lists)
 
 module _ (s : List ℕ) (k i : ℕ) where
   -- a place that no job has stays

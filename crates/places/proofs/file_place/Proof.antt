@@ -5,7 +5,8 @@ use mathlib.Core.Path.{_∙_}
 use native.Mathlib.Omega.{arith}
 use borrow.Author.Needs.{needs}
 use denote.Ref.{now}
-use Rattle.places.proofs.Places.{third-bound, place-far, place-byte, place-restraint, place-reading, place-else}
+use Rattle.bodies.proofs.Bytes.{third-bound}
+use Rattle.places.proofs.Places.{place-far, place-byte, place-restraint, place-reading, place-else}
 use Rattle.places.proofs.file_place.Statement.{statement}
 use Rattle.places.proofs.file_place.Tie as tie
 

@@ -3,7 +3,7 @@
 use native.Mathlib.Omega.{arith}
 use borrow.Author.Needs.{needs}
 use denote.Ref.{now}
-use Rattle.places.proofs.Places.{third-bound}
+use Rattle.bodies.proofs.Bytes.{third-bound}
 use Rattle.restraint_field.proofs.set_of.Statement.{statement}
 use Rattle.restraint_field.proofs.set_of.Tie as tie
 

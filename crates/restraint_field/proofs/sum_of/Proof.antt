@@ -4,7 +4,7 @@ use native.Mathlib.Omega.{arith}
 use borrow.Author.Needs.{needs}
 use denote.Ref.{now}
 use Rattle.algebra.proofs.Signs.{read-back}
-use Rattle.places.proofs.Places.{third-bound}
+use Rattle.bodies.proofs.Bytes.{third-bound}
 use Rattle.restraint_field.proofs.sum_of.Statement.{statement}
 use Rattle.restraint_field.proofs.sum_of.Tie as tie
 

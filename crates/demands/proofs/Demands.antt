@@ -25,11 +25,11 @@ use Rattle.algebra.proofs.Filling.{getD-over, getD-past}
 use Rattle.laws.proofs.Chains.{sound, judged-sound, job, accepts, test-yes}
 use Rattle.laws.proofs.Counting.{accepts-exactly, balanced-is, parameters}
 use Rattle.laws.proofs.Analysis.{totals-cancel, restraint-kept, q-nonneg}
-use Rattle.laws.proofs.Fractions.{exact-keeps, exact-deviation, exact-squares, exact-proper, squares-proper, least, published-excess}
+use Rattle.fitting.proofs.Fractions.{exact-keeps, exact-deviation, exact-squares, exact-proper, squares-proper, least, published-excess}
 use Rattle.laws.proofs.Files.{file-job, job-file}
 use Rattle.demands.proofs.Parts.{design-flat, job-flat, word-left, word-right, job-judged, numerator-exact, denominator-exact, value-near, spread-near, spread-some, spread-most, published-half, published-half-even}
-use Rattle.laws.proofs.Cut.{bench-text}
-use Rattle.laws.proofs.Enough.{text-length}
+use Rattle.filing.proofs.Cut.{bench-text}
+use Rattle.filing.proofs.Enough.{text-length}
 use Rattle.demands.proofs.Order.{start, tagged, long, body, file-order, rooms-flat, none-exactly}
 
 -- ---- DEMAND 1. For every job file and every direct call it ends without a fault (that is by the language). A bad job is refused by a listed number at a

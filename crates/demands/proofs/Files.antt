@@ -19,7 +19,7 @@ use Rattle.meaning.specs.File.{headOf, blocksOf, setOf, sumOf, readingsOf, fiel
 use Rattle.meaning.specs.Writing.{Bytes, fileOf, fileLength, ReadsAs, writeVerdict, writtenAnswer, writtenAfter}
 use Rattle.laws.proofs.Chains.{opened, accepts, accepted-last, test-yes}
 use Rattle.laws.proofs.Files.{filed, file-job, read-moved}
-use Rattle.laws.proofs.Writing.{reads-back, file-length, writes-again}
+use Rattle.filing.proofs.Writing.{reads-back, file-length, writes-again}
 use Rattle.demands.proofs.Parts.{job-flat}
 
 module _ (h : Head) (d : List ℕ) (y : List ℤ) (w : ℕ) (M : ℤ) where

@@ -18,7 +18,7 @@ use Rattle.meaning.specs.Calls.{jobVerdict}
 use Rattle.meaning.specs.File.{headOf, blocksOf, setOf, sumOf, readingsOf, fields, placed, readVerdict, readAnswer}
 use Rattle.meaning.specs.Writing.{Bytes, bytesOf, readingsBody, fileOf, ReadsAs, writeVerdict, writtenAnswer, writtenAfter}
 use Rattle.meaning.proofs.Examples.{fileA}
-use Rattle.laws.proofs.Writing.{reads-back, file-bytes, the-file, one-file}
+use Rattle.filing.proofs.Writing.{reads-back, file-bytes, the-file, one-file}
 use Rattle.demands.proofs.Files.{write-flat, refused-write, write-answer, write-front, write-later, write-reads, reads-answer, checks-alike, read-write, read-answer, read-front}
 
 module _ (h : Head) (d : List ℕ) (y : List ℤ) (w : ℕ) (M : ℤ) where

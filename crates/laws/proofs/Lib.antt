@@ -10,10 +10,4 @@ pub mod Solution
 pub mod Analysis
 pub mod Rounding
 pub mod Sizes
-pub mod Fractions
 pub mod Files
-pub mod Bytes
-pub mod Writing
-pub mod Lengths
-pub mod Enough
-pub mod Cut

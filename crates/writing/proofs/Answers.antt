@@ -15,7 +15,7 @@ use Rattle.meaning.specs.Refusals.{accepted, refused, room}
 use Rattle.meaning.specs.Calls.{jobVerdict}
 use Rattle.meaning.specs.Writing.{fileOf, fileLength, writeVerdict, writtenAnswer, writtenAfter}
 use Rattle.laws.proofs.Chains.{opened, held}
-use Rattle.laws.proofs.Writing.{file-length}
+use Rattle.filing.proofs.Writing.{file-length}
 use Rattle.writable.proofs.Slices.{Laid, laid}
 
 module _ (h : Head) (d : List ℕ) (y : List ℤ) (w : ℕ) (M : ℤ) (out : List ℕ) where

@@ -1,6 +1,6 @@
 -- `bench::put_text` meets its contract: there is room for every text. Assumes nothing.
 use borrow.Author.Needs.{needs}
-use Rattle.laws.proofs.Enough.{enough, counts}
+use Rattle.filing.proofs.Enough.{enough, counts}
 use Rattle.bench.proofs.put_text.Statement.{statement}
 use Rattle.bench.proofs.put_text.Tie as tie
 

@@ -3,7 +3,7 @@ use mathlib.Core.Path.{_≡_}
 use Prim.Native.Nat.{_≤_}
 use lib.ListN.{length, take}
 use borrow.Author.Needs.{needs}
-use Rattle.laws.proofs.Enough.{counts}
+use Rattle.filing.proofs.Enough.{counts}
 use Rattle.trials.proofs.print_listing.Statement.{statement}
 use Rattle.trials.proofs.print_listing.Tie as tie
 

@@ -24,10 +24,10 @@ use Rattle.meaning.specs.Refusals.{accepted, test}
 use Rattle.meaning.specs.Calls.{given, jobVerdict, spreadingOf}
 use Rattle.meaning.specs.File.{headOf, blocksOf, readingsOf, setOf, sumOf, readVerdict}
 use Rattle.meaning.specs.Text.{each, valueLine, devLine, jobText, textUnder, textOf, listedAnswer, listedAfter}
 use Rattle.laws.proofs.Chains.{job}
 use Rattle.laws.proofs.Sizes.{vbeta-most}
 use Rattle.laws.proofs.Files.{file-job}
-use Rattle.laws.proofs.Lengths.{each-length, design-length, value-length, dev-length, spread-length, refused-length}
+use Rattle.filing.proofs.Lengths.{each-length, design-length, value-length, dev-length, spread-length, refused-length}
 
 -- the listing of an accepted job
 pub job-length : (h : Head) (d : List ℕ) (y : List ℤ) (w : ℕ) (M : ℤ) → jobVerdict h d y w M ≡ accepted → length (jobText h d y w M) ≤ 51624

@@ -23,11 +23,11 @@ use Rattle.meaning.specs.Refusals.{accepted, test, _⨾_, sizes}
 use Rattle.meaning.specs.Calls.{jobVerdict}
 use Rattle.meaning.specs.File.{big, twos, numbersAt, bodyLength, fieldVerdict, headOf, secondAt, thirdAt, fourthAt, endAt, readingsAt, blocksOf, setOf, sumOf, readingsOf, fields, readVerdict}
 use Rattle.meaning.specs.Writing.{Bytes, bytesOf, wrapped, sizesBody, restraintBody, readingsBody, fieldBytes, fileOf, fileLength, ReadsAs}
 use Rattle.laws.specs.Fits.{Fits}
 use Rattle.laws.proofs.Chains.{opened, held, test-yes, accepts, sized-yes, listed-most, Job, job}
 use Rattle.laws.proofs.Clean.{in-range}
 use Rattle.laws.proofs.Files.{file-job, job-file}
-use Rattle.laws.proofs.Bytes.{bytes-none, bytes-more, bytes-append, bytes-long, bytes-are, big-below, read-bytes-at, write-bytes, wrapped-below, twos-wrapped, wrapped-twos, read-numbers, write-numbers, numbers-bytes, numbers-are}
+use Rattle.filing.proofs.Bytes.{bytes-none, bytes-more, bytes-append, bytes-long, bytes-are, big-below, read-bytes-at, write-bytes, wrapped-below, twos-wrapped, wrapped-twos, read-numbers, write-numbers, numbers-bytes, numbers-are}
 
 -- ---- a field
 

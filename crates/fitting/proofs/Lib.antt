@@ -1,0 +1,2 @@
+-- What the values of a job are against every other set of values, in fractions.
+pub mod Fractions

@@ -1,0 +1,1 @@
+// The exact values and the published ones against every other set of values, in fractions. Laws only.

@@ -55,13 +55,13 @@ module _ (h : Head) (d : List ℕ) (y : List ℤ) where
       by Accepted e = rooms-deviations h (measured h d y e .design .sizes) len
       by (Refused k at) e = refl
 
-  -- with all rooms local the readings decide
-  pub spread-verdict : analyseVerdict h d y 1 (pos 0) 2600 50 1300 ≡ readingsVerdict h d y
-  unfolding analyseVerdict
-  spread-verdict = ap (λ (v : Verdict). v ⨾ rooms h 2600 50 1300) readings-verdict ∙ by (readingsVerdict h d y) refl
+  -- with room for the largest the readings decide
+  pub spread-verdict : deviationsVerdict h d y 1300 ≡ readingsVerdict h d y
+  unfolding deviationsVerdict
+  spread-verdict = by (readingsVerdict h d y) refl
     where
-      by : (v : Verdict) → readingsVerdict h d y ≡ v → v ⨾ rooms h 2600 50 1300 ≡ v
-      by Accepted e = rooms-all h (measured h d y e .design .sizes)
+      by : (v : Verdict) → readingsVerdict h d y ≡ v → v ⨾ room 1300 (blocks h) ≡ v
+      by Accepted e = let f = measured h d y e .design .sizes in sym (rooms-deviations h f 1300) ∙ rooms-all h f
       by (Refused k at) e = refl
 
   module _ (k : ℕ) where
@@ -100,7 +100,7 @@ module _ (h : Head) (d : List ℕ) (y : List ℤ) where
   spread-under v = record { verdict = v; spreading = given v (spreadingOf h d y) noSpreading }
 
   -- a job worked out with rooms for the largest has the spread of the definition
-  pub spread-of-solved : (r : Solved) → r ≡ solvedUnder (analyseVerdict h d y 1 (pos 0) 2600 50 1300) h d y 1 → _≡_ {A = JobSpread} (record { verdict = r .verdict; spreading = r .spreading }) (spreadAnswer h d y)
+  pub spread-of-solved : (r : Solved) → r ≡ solvedUnder (deviationsVerdict h d y 1300) h d y 1 → _≡_ {A = JobSpread} (record { verdict = r .verdict; spreading = r .spreading }) (spreadAnswer h d y)
   spread-of-solved r e = ap (λ (r : Solved). record { verdict = r .verdict; spreading = r .spreading }) e ∙ ap spread-under spread-verdict
 
   -- Q is that of the spread, on a refusal too

@@ -4,12 +4,13 @@ use readings::blocks_refusal;
 use records::BlockDeviation;
 use records::Head;
 use records::JobSpread;
+use records::Solved;
 use records::SquareSum;
 use records::Verdict;
 use verdicts::is_refused;
 ghost use mathlib.Core.Path.{_≡_};
 ghost use lib.ListN.{length};
-ghost use Rattle.meaning.specs.Calls.{deviationsVerdict, deviationsUnder, deviationAnswer, qAnswer, spreadAnswer};
+ghost use Rattle.meaning.specs.Calls.{solvedUnder, deviationsVerdict, deviationsUnder, deviationAnswer, qAnswer, spreadAnswer};
 ghost use Rattle.deviations.specs.Answers.{noDeviation};
 
 // The deviation numerators of all blocks.
@@ -17,18 +18,7 @@ pub fn deviations(head: Head, blocks: &[u8], readings: &[i32], deviations: &mut 
     ensures { λ r. ⌜ r ≡ deviationsVerdict head (now (blocks .entry)) (now (readings .entry)) (length (now (deviations .entry))) ⌝ }
     ensures { λ r. ⌜ now (deviations .exit) ≡ deviationsUnder (deviationsVerdict head (now (blocks .entry)) (now (readings .entry)) (length (now (deviations .entry)))) head (now (blocks .entry)) (now (readings .entry)) (now (deviations .entry)) ⌝ }
 {
-    let mut developed = [0u64; 2600];
-    let mut numerators = [0i64; 50];
-    let solved = analyse(
-        head,
-        blocks,
-        readings,
-        1,
-        0,
-        &mut developed,
-        &mut numerators,
-        deviations,
-    );
+    let solved = worked(head, blocks, readings, deviations);
     solved.verdict
 }
 
@@ -43,19 +33,8 @@ pub fn deviation_of(head: Head, blocks: &[u8], readings: &[i32], block: usize) -
     if head.m * head.n <= block {
         return no_deviation(Verdict::Refused(5, block));
     }
-    let mut words = [0u64; 2600];
-    let mut values = [0i64; 50];
     let mut deviations = [0i64; 1300];
-    let solved = analyse(
-        head,
-        blocks,
-        readings,
-        1,
-        0,
-        &mut words,
-        &mut values,
-        &mut deviations,
-    );
+    let solved = worked(head, blocks, readings, &mut deviations);
     let verdict = solved.verdict;
     if is_refused(verdict) {
         return no_deviation(verdict);
@@ -84,22 +63,30 @@ pub fn q(head: Head, blocks: &[u8], readings: &[i32]) -> SquareSum
 pub fn spread(head: Head, blocks: &[u8], readings: &[i32]) -> JobSpread
     ensures { λ r. ⌜ r ≡ spreadAnswer head (now (blocks .entry)) (now (readings .entry)) ⌝ }
 {
-    let mut word_room = [0u64; 2600];
-    let mut value_room = [0i64; 50];
     let mut deviation_room = [0i64; 1300];
-    let solved = analyse(
+    let solved = worked(head, blocks, readings, &mut deviation_room);
+    let verdict = solved.verdict;
+    let spreading = solved.spreading;
+    JobSpread { verdict, spreading }
+}
+
+// The job worked out, its deviations into lent room and the rest into rooms of its own that are long enough.
+fn worked(head: Head, blocks: &[u8], readings: &[i32], deviations: &mut [i64]) -> Solved
+    ensures { λ r. ⌜ r ≡ solvedUnder (deviationsVerdict head (now (blocks .entry)) (now (readings .entry)) (length (now (deviations .entry)))) head (now (blocks .entry)) (now (readings .entry)) 1 ⌝ }
+    ensures { λ r. ⌜ now (deviations .exit) ≡ deviationsUnder (deviationsVerdict head (now (blocks .entry)) (now (readings .entry)) (length (now (deviations .entry)))) head (now (blocks .entry)) (now (readings .entry)) (now (deviations .entry)) ⌝ }
+{
+    let mut words = [0u64; 2600];
+    let mut values = [0i64; 50];
+    analyse(
         head,
         blocks,
         readings,
         1,
         0,
-        &mut word_room,
-        &mut value_room,
-        &mut deviation_room,
-    );
-    let verdict = solved.verdict;
-    let spreading = solved.spreading;
-    JobSpread { verdict, spreading }
+        &mut words,
+        &mut values,
+        deviations,
+    )
 }
 
 // What a refused deviation hands back.

@@ -10,13 +10,12 @@ use lib.ListN.{getD}
 use Rattle.algebra.proofs.Filling.{getD-over}
 use Rattle.algebra.proofs.Signs.{read-back}
 use Rattle.records.specs.declared.Head.{Head}
-use Rattle.records.specs.declared.Verdict.{Verdict}
 use Rattle.records.specs.declared.Spreading.{Spreading}
 use Rattle.records.specs.declared.Solved.{Solved}
 use Rattle.meaning.specs.Design.{blocks}
 use Rattle.meaning.specs.Analysis.{deviationOf, vbeta}
 use Rattle.meaning.specs.Refusals.{_⨾_, accepted, refused, clean}
-use Rattle.meaning.specs.Calls.{slices, readingsVerdict, analyseVerdict, spreadingOf, noSpreading}
+use Rattle.meaning.specs.Calls.{slices, readingsVerdict, deviationsVerdict, solvedUnder, spreadingOf, noSpreading}
 use Rattle.laws.specs.Fits.{Fits}
 use Rattle.laws.proofs.Chains.{opened, sliced, given-yes}
 use Rattle.verdicts.proofs.Told.{refusing, accepting}
@@ -34,9 +33,9 @@ fits : (c : tie.Else1) → Fits (c .before .before .before .before .args .head)
 fits c = sliced _ _ _ (opened _ _ (passed c) .0) .sizes
 
 -- once the job is worked out
-module _ (c : tie.After-analyse) where
+module _ (c : tie.After-worked) where
   abbrev start : tie.Start
-  start = c .before .before .before .before .before .before .before .before .before .before
+  start = c .before .before .before .before .before .before .before .before
 
   abbrev head : Head
   head = start .args .head
@@ -47,28 +46,28 @@ module _ (c : tie.After-analyse) where
   abbrev ys : List ℤ
   ys = now (start .args .readings)
 
-  abbrev solved-under : Verdict
-  solved-under = analyseVerdict head bytes ys 1 (pos 0) 2600 50 1300
-
   there : start .args .block < blocks head
-  there = omega (arith, c .before .before .before .before .if2 .left)
+  there = omega (arith, c .before .before .if2 .left)
 
-  rooms : solved-under ≡ readingsVerdict head bytes ys
+  rooms : deviationsVerdict head bytes ys 1300 ≡ readingsVerdict head bytes ys
   rooms = spread-verdict head bytes ys
 
-  solved-verdict : c .analyse .result .verdict ≡ readingsVerdict head bytes ys
-  solved-verdict = ap (λ (r : Solved). r .verdict) (c .analyse .ensures .0) ∙ rooms
+  solution : c .worked .result ≡ solvedUnder (deviationsVerdict head bytes ys 1300) head bytes ys 1
+  solution = search needs
+
+  solved-verdict : c .worked .result .verdict ≡ readingsVerdict head bytes ys
+  solved-verdict = ap (λ (r : Solved). r .verdict) solution ∙ rooms
 
   module _ (e : readingsVerdict head bytes ys ≡ accepted) where
-    scale-is : c .analyse .result .spreading .vbeta ≡ vbeta head bytes
+    scale-is : c .worked .result .spreading .vbeta ≡ vbeta head bytes
     scale-is =
-        ap (λ (r : Solved). r .spreading .vbeta) (c .analyse .ensures .0)
-        ∙ ap (λ (p : Spreading). p .vbeta) (given-yes solved-under (spreadingOf head bytes ys) noSpreading (rooms ∙ e))
+        ap (λ (r : Solved). r .spreading .vbeta) solution
+        ∙ ap (λ (p : Spreading). p .vbeta) (given-yes (deviationsVerdict head bytes ys 1300) (spreadingOf head bytes ys) noSpreading (rooms ∙ e))
 
-    numerator-is : getD (c .analyse .last .1 .1 .1 .1 .1 .1 .1 .0) (start .args .block) (pos 0) ≡ deviationOf head bytes ys (start .args .block)
+    numerator-is : getD (c .worked .last .1 .1 .1 .0) (start .args .block) (pos 0) ≡ deviationOf head bytes ys (start .args .block)
     numerator-is =
-        ap (λ (l : List ℤ). getD l (start .args .block) (pos 0)) (c .analyse .ensures .1 .1 .1 ∙ given-yes solved-under _ _ (rooms ∙ e))
-        ∙ getD-over (blocks head) (deviationOf head bytes ys) _ (pos 0) (start .args .block) there (fits (c .before .before .before .before .before .before) .blocks-most)
+        ap (λ (l : List ℤ). getD l (start .args .block) (pos 0)) (c .worked .ensures .1 ∙ given-yes (deviationsVerdict head bytes ys 1300) _ _ (rooms ∙ e))
+        ∙ getD-over (blocks head) (deviationOf head bytes ys) _ (pos 0) (start .args .block) there (fits (c .before .before .before .before) .blocks-most)
 
 returns : tie.Need-returns
 returns c =
@@ -80,15 +79,15 @@ returns-2 c = c .no-deviation2 .ensures ∙ no-deviation-is _ _ _ _ (refused 5 _
 
 returns-3 : tie.Need-returns-3
 returns-3 c =
-    let a = c .before .before .before .before .before .before in
+    let a = c .before .before .before .before in
     let r = sym (c .before .before .is-refused2 .ensures) ∙ c .before .if3 .taken in
-    c .no-deviation3 .ensures ∙ no-deviation-is _ _ _ _ _ r (deviation-readings _ _ _ _ (passed (a .before .before .before .before .before .before)) (there a) ∙ sym (solved-verdict a) ∙ refusing _ r)
+    c .no-deviation3 .ensures ∙ no-deviation-is _ _ _ _ _ r (deviation-readings _ _ _ _ (passed (a .before .before .before .before)) (there a) ∙ sym (solved-verdict a) ∙ refusing _ r)
 
 returns-4 : tie.Need-returns-4
 returns-4 c =
-    let a = c .before .before .before .before .before .before in
+    let a = c .before .before .before .before in
     let e = sym (solved-verdict a) ∙ accepting _ (sym (c .before .before .is-refused2 .ensures) ∙ c .before .if3 .left) in
-    deviation-is-given _ _ _ _ _ _ (deviation-readings _ _ _ _ (passed (c .before .before .before .before .before .before .before .before .before .before .before .before)) (there a) ∙ e)
+    deviation-is-given _ _ _ _ _ _ (deviation-readings _ _ _ _ (passed (c .before .before .before .before .before .before .before .before)) (there a) ∙ e)
     (read-back _ (c .numerator .given) ∙ numerator-is a e) (search (scale-is a e))
 
 pub deviation-of-spec : {M : Type 1} → statement M
@@ -103,12 +102,10 @@ deviation-of-spec =
     (λ c κs. search needs)
     returns-2
     (λ c. search needs)
-    (λ c. search needs)
-    (λ c. search needs)
     (λ c κs. search needs)
     (λ c κs. search needs)
     (λ c κs. search needs)
     returns-3
-    (λ c. omega (arith, there (c .before .before .before .before .before), fits (c .before .before .before .before .before .before .before .before .before .before .before) .blocks-most))
-    (λ c. omega (arith, there (c .before .before .before .before .before), fits (c .before .before .before .before .before .before .before .before .before .before .before) .blocks-most))
+    (λ c. omega (arith, there (c .before .before .before), fits (c .before .before .before .before .before .before .before) .blocks-most))
+    (λ c. omega (arith, there (c .before .before .before), fits (c .before .before .before .before .before .before .before) .blocks-most))
     returns-4)

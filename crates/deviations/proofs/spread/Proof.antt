@@ -7,8 +7,8 @@ use Rattle.deviations.proofs.spread.Tie as tie
 
 returns : tie.Need-returns
 returns c =
-    let s = c .before .before .before .before .before .before .before .before .before in
-    spread-of-solved (s .args .head) (now (s .args .blocks)) (now (s .args .readings)) (c .before .before .before .before .analyse .result) (search needs)
+    let s = c .before .before .before .before .before in
+    spread-of-solved (s .args .head) (now (s .args .blocks)) (now (s .args .readings)) (c .before .before .worked .result) (search needs)
 
 pub spread-spec : {M : Type 1} → statement M
-spread-spec = tie.close (tie.spec (λ c. search needs) (λ c. search needs) (λ c. search needs) (λ c κs. search needs) returns)
+spread-spec = tie.close (tie.spec (λ c. search needs) (λ c κs. search needs) returns)

@@ -2,6 +2,7 @@
 use design::pairs_refusal;
 use records::Head;
 use records::Verdict;
+use verdicts::is_refused;
 ghost use mathlib.Core.Path.{_≡_};
 ghost use mathlib.Core.List.{map};
 ghost use Prim.Native.Nat.{_+_, _*_, _≤_, _<_};
@@ -16,8 +17,9 @@ pub fn develop(head: Head, blocks: &[u8], words: &mut [u64]) -> Verdict
     ensures { λ r. ⌜ r ≡ developVerdict head (now (blocks .entry)) (length (now (words .entry))) ⌝ }
     ensures { λ r. ⌜ now (words .exit) ≡ wordsUnder (developVerdict head (now (blocks .entry)) (length (now (words .entry)))) head (now (blocks .entry)) (now (words .entry)) ⌝ }
 {
-    if let Verdict::Refused(number, at) = pairs_refusal(head, blocks) {
-        return Verdict::Refused(number, at);
+    let listed = pairs_refusal(head, blocks);
+    if is_refused(listed) {
+        return listed;
     }
     let m = head.m;
     let n = head.n;
@@ -33,8 +35,9 @@ pub fn develop_initial(head: Head, blocks: &[u8], j: usize, words: &mut [u64]) -
     ensures { λ r. ⌜ r ≡ initialVerdict head (now (blocks .entry)) j (length (now (words .entry))) ⌝ }
     ensures { λ r. ⌜ now (words .exit) ≡ initialWords head (now (blocks .entry)) j (now (words .entry)) ⌝ }
 {
-    if let Verdict::Refused(number, at) = pairs_refusal(head, blocks) {
-        return Verdict::Refused(number, at);
+    let listed = pairs_refusal(head, blocks);
+    if is_refused(listed) {
+        return listed;
     }
     let m = head.m;
     let n = head.n;

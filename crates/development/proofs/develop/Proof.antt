@@ -6,26 +6,28 @@ use denote.Ref.{now}
 use Rattle.records.specs.declared.Verdict.the-variants.{Accepted}
 use Rattle.meaning.specs.Calls.{designVerdict, developVerdict}
 use Rattle.laws.proofs.Chains.{sound}
+use Rattle.verdicts.proofs.Told.{refusing, accepting}
 use native.Mathlib.Omega.{arith}
 use borrow.Author.Needs.{needs}
 use Rattle.development.proofs.develop.Statement.{statement}
 use Rattle.development.proofs.develop.Tie as tie
 
 -- past the shared tests, the design is sound
-passed : (c : tie.After-enum-told) → designVerdict (c .before .before .before .before .before .args .head) (now (c .before .before .before .before .before .args .blocks)) ≡ Accepted
-passed c = sym (c .before .before .pairs-refusal .ensures) ∙ c .enum-told .given .1
+passed : (c : tie.Else1) → designVerdict (c .before .before .before .before .before .args .head) (now (c .before .before .before .before .before .args .blocks)) ≡ Accepted
+passed c = sym (c .before .before .pairs-refusal .ensures) ∙ accepting _ (sym (c .before .is-refused .ensures) ∙ c .if1 .left)
 
 returns : tie.Need-returns
 unfolding developVerdict
 returns c =
-    let e = sym (c .before .before .before .pairs-refusal .ensures) ∙ c .before .number .given .1 in
-    (rw e (search needs), rw e (search needs))
+    let r = refusing _ (sym (c .before .is-refused .ensures) ∙ c .if1 .taken) in
+    let e = sym (c .before .before .pairs-refusal .ensures) ∙ r in
+    rw e (r, search needs)
 
-mul-if1 : tie.Need-mul-if1
-mul-if1 c = let f = sound _ _ (passed c) .sizes in omega arith
+mul-if2 : tie.Need-mul-if2
+mul-if2 c = let f = sound _ _ (passed c) .sizes in omega arith
 
-mul-if1-2 : tie.Need-mul-if1-2
-mul-if1-2 c = let f = sound _ _ (passed c) .sizes in omega arith
+mul-if2-2 : tie.Need-mul-if2-2
+mul-if2-2 c = let f = sound _ _ (passed c) .sizes in omega arith
 
 write-words-requires : tie.Need-write-words-requires
 write-words-requires c κs = let s = sound _ _ (passed (c .before .before)) in (s .sizes, s .long, search needs)
@@ -34,14 +36,14 @@ returns-2 : tie.Need-returns-2
 unfolding developVerdict
 returns-2 c =
     let e = passed (c .before .before .before .before .before) in
-    let r = le-leb _ _ (c .before .before .before .before .if1 .taken) in
+    let r = le-leb _ _ (c .before .before .before .before .if2 .taken) in
     (rw (e, r) (search needs), rw (e, r) (search needs))
 
 returns-3 : tie.Need-returns-3
 unfolding developVerdict
 returns-3 c =
     let e = passed (c .before) in
-    let r = lt-leb _ _ (c .if1 .left) in
+    let r = lt-leb _ _ (c .if2 .left) in
     (rw (e, r) (search needs), rw (e, r) (search needs))
 
 pub develop-spec : {M : Type 1} → statement M
@@ -49,11 +51,10 @@ develop-spec =
     tie.close
     (tie.spec
     (λ c κs. search needs)
-    (λ c. search needs)
+    (λ c κs. search needs)
     returns
-    (λ c. search needs)
-    mul-if1
-    mul-if1-2
+    mul-if2
+    mul-if2-2
     write-words-requires
     (λ c. search needs)
     returns-2

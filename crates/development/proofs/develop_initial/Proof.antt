@@ -8,6 +8,7 @@ use lib.ListN.{length, length-take, length-drop}
 use Rattle.meaning.specs.Refusals.{accepted}
 use Rattle.meaning.specs.Calls.{designVerdict, initialVerdict}
 use Rattle.laws.proofs.Chains.{sound}
+use Rattle.verdicts.proofs.Told.{refusing, accepting}
 use Rattle.algebra.proofs.Filling.{lent-back}
 use Rattle.development.proofs.Parts.{part-in, twice}
 use native.Mathlib.Omega.{arith}
@@ -16,11 +17,11 @@ use Rattle.development.proofs.develop_initial.Statement.{statement}
 use Rattle.development.proofs.develop_initial.Tie as tie
 
 -- past the shared tests, the design is accepted
-passed : (c : tie.After-enum-told) → designVerdict (c .before .before .before .before .before .args .head) (now (c .before .before .before .before .before .args .blocks)) ≡ accepted
-passed c = sym (c .before .before .pairs-refusal .ensures) ∙ c .enum-told .given .1
+passed : (c : tie.Else1) → designVerdict (c .before .before .before .before .before .args .head) (now (c .before .before .before .before .before .args .blocks)) ≡ accepted
+passed c = sym (c .before .before .pairs-refusal .ensures) ∙ accepting _ (sym (c .before .is-refused .ensures) ∙ c .if1 .left)
 
 -- part j lies within the words, of which there are at most 2600
-inside : (c : tie.Else2)
+inside : (c : tie.Else3)
     → (2 * c .before .before .before .before .before .before .before .args .head .n * c .before .before .before .before .before .before .before .args .j + 2 * c .before .before .before .before .before .before .before .args .head .n
     ≤ 2 * (c .before .before .before .before .before .before .before .args .head .m * c .before .before .before .before .before .before .before .args .head .n))
     × (c .before .before .before .before .before .before .before .args .head .m * c .before .before .before .before .before .before .before .args .head .n ≤ 1300)
@@ -32,8 +33,9 @@ inside c =
 returns : tie.Need-returns
 unfolding initialVerdict
 returns c =
-    let e = sym (c .before .before .before .pairs-refusal .ensures) ∙ c .before .number .given .1 in
-    (rw e (search needs), rw e (search needs))
+    let r = refusing _ (sym (c .before .is-refused .ensures) ∙ c .if1 .taken) in
+    let e = sym (c .before .before .pairs-refusal .ensures) ∙ r in
+    rw e (r, search needs)
 
 mul-room : tie.Need-mul-room
 mul-room c = let f = sound _ _ (passed c) .sizes in omega arith
@@ -83,8 +85,8 @@ unfolding initialVerdict
 returns-4 c =
     let a = c .before .before .before .before .before .before .before .before .before .before .before .args in
     let e = passed (c .before .before .before .before .before .before) in
-    let j = lt-ltb _ _ (c .before .before .before .before .before .if1 .left) in
-    let r = le-leb _ _ (c .before .before .before .before .if2 .left) in
+    let j = lt-ltb _ _ (c .before .before .before .before .before .if2 .left) in
+    let r = le-leb _ _ (c .before .before .before .before .if3 .left) in
     (rw (e, j, r) (search needs), rw (e, j, r) (lent-back (2 * a .head .n * a .j) (2 * a .head .n) _ (now (a .words)) (c .before .before .write-shifts .ensures)))
 
 pub develop-initial-spec : {M : Type 1} → statement M
@@ -92,9 +94,8 @@ develop-initial-spec =
     tie.close
     (tie.spec
     (λ c κs. search needs)
-    (λ c. search needs)
+    (λ c κs. search needs)
     returns
-    (λ c. search needs)
     mul-room
     mul-room-2
     returns-2

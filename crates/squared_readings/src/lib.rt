@@ -5,6 +5,7 @@ use records::Head;
 use records::SquareSum;
 use records::Verdict;
 use squares::no_sum;
+use verdicts::is_refused;
 ghost use mathlib.Core.Path.{_≡_};
 ghost use Prim.Native.Nat.{ℕ, _*_, _<_, _≤_};
 ghost use lib.IntN.{pos, natAbs};
@@ -17,15 +18,16 @@ pub fn sum_of_squares(head: Head, readings: &[i32]) -> SquareSum
     ensures { λ r. ⌜ r ≡ squaredReadingsAnswer head (now (readings .entry)) ⌝ }
 {
     if !sized(head) {
-        return no_sum(4, 0);
+        return no_sum(Verdict::Refused(4, 0));
     }
     let m = head.m;
     let n = head.n;
     if readings.len() != m * n {
-        return no_sum(3, 0);
+        return no_sum(Verdict::Refused(3, 0));
     }
-    if let Verdict::Refused(number, at) = reach_refusal(readings) {
-        return no_sum(number, at);
+    let reached = reach_refusal(readings);
+    if is_refused(reached) {
+        return no_sum(reached);
     }
     let sum = squared_readings(readings, m * n);
     SquareSum {

@@ -2,15 +2,11 @@
 use records::SquareSum;
 use records::Verdict;
 ghost use mathlib.Core.Path.{_≡_};
-ghost use Rattle.meaning.specs.Refusals.{refused};
 ghost use Rattle.meaning.specs.Calls.{squareSum};
 
 // What a refused sum hands back.
-pub fn no_sum(number: u8, at: usize) -> SquareSum
-    ensures { λ r. ⌜ r ≡ squareSum (refused number at) 0 ⌝ }
+pub fn no_sum(verdict: Verdict) -> SquareSum
+    ensures { λ r. ⌜ r ≡ squareSum verdict 0 ⌝ }
 {
-    SquareSum {
-        verdict: Verdict::Refused(number, at),
-        sum: 0,
-    }
+    SquareSum { verdict, sum: 0 }
 }

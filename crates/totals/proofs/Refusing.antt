@@ -1,5 +1,6 @@
 -- The verdicts of totals, taken apart and put together, and what stands where the blocks are accepted. Assumes nothing.
 use mathlib.Core.Path.{_≡_, refl, sym, ap, ap₂, _∙_}
+use mathlib.Core.Bool.{true, false}
 use mathlib.Core.List.{List, replicate}
 use Prim.Native.Nat.{ℕ, _*_, _≤_, _<_}
 use native.Mathlib.Omega.{arith}
@@ -14,9 +15,10 @@ use Rattle.records.specs.declared.Verdict.the-variants.{Accepted, Refused}
 use Rattle.records.specs.declared.ObjectTotal.{ObjectTotal}
 use Rattle.meaning.specs.Design.{objects, blocks}
 use Rattle.meaning.specs.Analysis.{total}
-use Rattle.meaning.specs.Refusals.{_⨾_, accepted, refused, clean, inReach}
+use Rattle.meaning.specs.Refusals.{_⨾_, accepted, refused, number, place, clean, inReach}
 use Rattle.meaning.specs.Calls.{given, written, slices, developVerdict, wordsUnder, squareSum, squaredTotalsVerdict, squaredTotalsAnswer, totalVerdict, totalAnswer}
 use Rattle.laws.proofs.Chains.{Sound, opened, goes-on, accepts, refused-stays, test-yes, test-no, accepted-last, given-yes, sliced, slices-sound}
+use Rattle.verdicts.proofs.Told.{refusing}
 use Rattle.readings.proofs.Answers.{design-clean}
 use Rattle.weighable.specs.Verdicts.{weighVerdict}
 use Rattle.weighing.specs.Developed.{totalIn, squaredTotalsIn}
@@ -58,9 +60,9 @@ module _ (h : Head) (d : List ℕ) (y : List ℤ) (l words : List ℕ) (m : leng
 
 module _ (h : Head) (d : List ℕ) (y : List ℤ) where
   -- the blocks are refused
-  pub squared-refused : (k at : ℕ) → slices h d y ⨾ clean h d ≡ refused k at → squaredTotalsVerdict h d y ≡ refused k at
+  pub squared-refused : (v : Verdict) → given v false true ≡ true → slices h d y ⨾ clean h d ≡ v → squaredTotalsVerdict h d y ≡ v
   unfolding squaredTotalsVerdict
-  squared-refused k at e = refused-stays _ k at e
+  squared-refused v r e = refused-stays _ _ _ (e ∙ refusing v r) ∙ sym (refusing v r)
 
   -- accepted blocks: the sum is that of their words
   pub squared-weighed : (words : List ℕ) → slices h d y ⨾ clean h d ≡ accepted → Laid h d words → weighVerdict h words y 50 ≡ inReach y →
@@ -82,8 +84,8 @@ module _ (h : Head) (d : List ℕ) (y : List ℤ) (i : ℕ) where
   total-refused k at e = refused-stays _ k at (refused-stays _ k at e)
 
   -- a refusal holds 0
-  pub no-total-is : (k at : ℕ) → totalVerdict h d y i ≡ refused k at → noTotal (refused k at) ≡ totalAnswer h d y i
-  no-total-is k at e = sym (ap (λ (v : Verdict). record { verdict = v; total = given v (total h d y i) (pos 0) }) e)
+  pub no-total-is : (v : Verdict) → given v false true ≡ true → totalVerdict h d y i ≡ refused (number v) (place v) → noTotal v ≡ totalAnswer h d y i
+  no-total-is v r e = ap noTotal (refusing v r) ∙ sym (ap (λ (v : Verdict). record { verdict = v; total = given v (total h d y i) (pos 0) }) e)
 
   module _ (e : slices h d y ⨾ clean h d ≡ accepted) where
     -- there is no such object

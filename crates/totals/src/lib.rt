@@ -6,9 +6,10 @@ use records::ObjectTotal;
 use records::SquareSum;
 use records::Verdict;
 use squares::no_sum;
+use verdicts::is_refused;
 use weighing::weigh;
 ghost use mathlib.Core.Path.{_≡_};
-ghost use Rattle.meaning.specs.Refusals.{_⨾_, refused, clean};
+ghost use Rattle.meaning.specs.Refusals.{_⨾_, clean};
 ghost use Rattle.meaning.specs.Calls.{slices, wordsUnder, squaredTotalsAnswer, totalAnswer};
 ghost use Rattle.totals.specs.Answers.{noTotal};
 
@@ -17,11 +18,12 @@ pub fn total(head: Head, blocks: &[u8], readings: &[i32], object: usize) -> Obje
     ensures { λ r. ⌜ r ≡ totalAnswer head (now (blocks .entry)) (now (readings .entry)) object ⌝ }
 {
     let mut words = [0u64; 2600];
-    if let Verdict::Refused(number, at) = developed(head, blocks, readings, &mut words) {
-        return no_total(number, at);
+    let tested = developed(head, blocks, readings, &mut words);
+    if is_refused(tested) {
+        return no_total(tested);
     }
     if head.n + head.flag <= object {
-        return no_total(5, object);
+        return no_total(Verdict::Refused(5, object));
     }
     let mut totals = [0i64; 50];
     let weighed = weigh(head, &words, readings, &mut totals);
@@ -35,21 +37,19 @@ pub fn sum_of_squared_totals(head: Head, blocks: &[u8], readings: &[i32]) -> Squ
     ensures { λ r. ⌜ r ≡ squaredTotalsAnswer head (now (blocks .entry)) (now (readings .entry)) ⌝ }
 {
     let mut words = [0u64; 2600];
-    if let Verdict::Refused(number, at) = developed(head, blocks, readings, &mut words) {
-        return no_sum(number, at);
+    let tested = developed(head, blocks, readings, &mut words);
+    if is_refused(tested) {
+        return no_sum(tested);
     }
     let mut totals = [0i64; 50];
     weigh(head, &words, readings, &mut totals)
 }
 
 // What a refused total hands back.
-fn no_total(number: u8, at: usize) -> ObjectTotal
-    ensures { λ r. ⌜ r ≡ noTotal (refused number at) ⌝ }
+fn no_total(verdict: Verdict) -> ObjectTotal
+    ensures { λ r. ⌜ r ≡ noTotal verdict ⌝ }
 {
-    ObjectTotal {
-        verdict: Verdict::Refused(number, at),
-        total: 0,
-    }
+    ObjectTotal { verdict, total: 0 }
 }
 
 // Tests the sizes, the lengths and the block list, and develops the design into `words`.
@@ -57,8 +57,9 @@ fn developed(head: Head, blocks: &[u8], readings: &[i32], words: &mut [u64; 2600
     ensures { λ r. ⌜ r ≡ slices head (now (blocks .entry)) (now (readings .entry)) ⨾ clean head (now (blocks .entry)) ⌝ }
     ensures { λ r. ⌜ now (words .exit) ≡ wordsUnder (slices head (now (blocks .entry)) (now (readings .entry)) ⨾ clean head (now (blocks .entry))) head (now (blocks .entry)) (now (words .entry)) ⌝ }
 {
-    if let Verdict::Refused(number, at) = slices_refusal(head, blocks, readings) {
-        return Verdict::Refused(number, at);
+    let sliced = slices_refusal(head, blocks, readings);
+    if is_refused(sliced) {
+        return sliced;
     }
     develop(head, blocks, words)
 }

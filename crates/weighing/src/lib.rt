@@ -3,6 +3,7 @@ use records::Head;
 use records::SquareSum;
 use records::Verdict;
 use squares::no_sum;
+use verdicts::is_refused;
 use weighable::weighing_refusal;
 use words::lowest;
 use words::without_lowest;
@@ -24,8 +25,9 @@ pub fn weigh(head: Head, words: &[u64], readings: &[i32], totals: &mut [i64]) ->
     ensures { λ r. ⌜ r ≡ squareSum (weighVerdict head (now (words .entry)) (now (readings .entry)) (length (now (totals .entry)))) (squaredTotalsIn (now (words .entry)) (now (readings .entry)) (blocks head) (objects head)) ⌝ }
     ensures { λ r. ⌜ now (totals .exit) ≡ written (weighVerdict head (now (words .entry)) (now (readings .entry)) (length (now (totals .entry)))) (objects head) (totalIn (now (words .entry)) (now (readings .entry)) (blocks head)) (now (totals .entry)) ⌝ }
 {
-    if let Verdict::Refused(number, at) = weighing_refusal(head, words, readings, totals.len()) {
-        return no_sum(number, at);
+    let tested = weighing_refusal(head, words, readings, totals.len());
+    if is_refused(tested) {
+        return no_sum(tested);
     }
     let v = head.n + head.flag;
     fill(words, readings, head.m * head.n, v, totals);

@@ -1,6 +1,6 @@
 -- `sum_of_squares`: each way out is its verdict, by the tests that led there. Assumes nothing.
 use borrow.Author.Needs.{needs}
-use mathlib.Core.Path.{_≡_, sym, _∙_}
+use mathlib.Core.Path.{_≡_, refl, sym, _∙_}
 use mathlib.Core.Bool.{true}
 use native.Mathlib.Omega.{arith}
 use borrow.Author.Tests.{not-true, not-false, eq-eqb, ne-eqb}
@@ -8,9 +8,10 @@ use denote.Ref.{now}
 use lib.ListN.{length}
 use lib.Dec.{eqb}
 use Rattle.meaning.specs.Design.{sized, blocks}
-use Rattle.meaning.specs.Refusals.{accepted, inReach}
+use Rattle.meaning.specs.Refusals.{accepted, refused, inReach}
 use Rattle.meaning.specs.Calls.{squaredReadingsVerdict}
 use Rattle.laws.proofs.Chains.{fits, readings-near}
+use Rattle.verdicts.proofs.Told.{accepting}
 use Rattle.squares.proofs.Squares.{readings-squares}
 use Rattle.squares.proofs.Answers.{square-refused, square-accepted}
 use Rattle.squared_readings.proofs.sum_of_squares.Statement.{statement}
@@ -25,23 +26,23 @@ long : (c : tie.Else2) → eqb (length (now (c .before .before .before .args .re
 long c = eq-eqb _ _ (c .if2 .left)
 
 -- past the third none is out of range
-close : (c : tie.After-enum-told) → inReach (now (c .before .before .before .before .before .before .args .readings)) ≡ accepted
-close c = sym (c .before .before .reach-refusal .ensures) ∙ c .enum-told .given .1
+close : (c : tie.Else3) → inReach (now (c .before .before .before .before .before .before .args .readings)) ≡ accepted
+close c = sym (c .before .before .reach-refusal .ensures) ∙ accepting _ (sym (c .before .is-refused .ensures) ∙ c .if3 .left)
 
 returns : tie.Need-returns
 unfolding squaredReadingsVerdict
-returns c = c .no-sum .ensures ∙ square-refused (squaredReadingsVerdict (c .before .before .before .args .head) (now (c .before .before .before .args .readings))) _ 4 0 (rw (sym (c .before .before .sized .ensures) ∙ not-true _ (c .before .if1 .taken)))
+returns c = c .no-sum .ensures ∙ square-refused (squaredReadingsVerdict (c .before .before .before .args .head) (now (c .before .before .before .args .readings))) _ (refused 4 0) refl (rw (sym (c .before .before .sized .ensures) ∙ not-true _ (c .before .if1 .taken)))
 
 returns-2 : tie.Need-returns-2
 unfolding squaredReadingsVerdict
-returns-2 c = c .no-sum2 .ensures ∙ square-refused (squaredReadingsVerdict (c .before .before .before .before .args .head) (now (c .before .before .before .before .args .readings))) _ 3 0 (rw (passed (c .before .before), ne-eqb _ _ (c .before .if2 .taken)))
+returns-2 c = c .no-sum2 .ensures ∙ square-refused (squaredReadingsVerdict (c .before .before .before .before .args .head) (now (c .before .before .before .before .args .readings))) _ (refused 3 0) refl (rw (passed (c .before .before), ne-eqb _ _ (c .before .if2 .taken)))
 
 returns-3 : tie.Need-returns-3
 unfolding squaredReadingsVerdict
 returns-3 c =
-    let e = sym (c .before .before .before .before .reach-refusal .ensures) ∙ c .before .before .number .given .1 in
     c .no-sum3 .ensures
-    ∙ square-refused _ _ _ _ (rw (passed (c .before .before .before .before .before .before), long (c .before .before .before .before .before), e))
+    ∙ square-refused _ _ _ (sym (c .before .before .is-refused .ensures) ∙ c .before .if3 .taken)
+    (rw (passed (c .before .before .before .before .before), long (c .before .before .before .before), sym (c .before .before .before .reach-refusal .ensures)))
 
 returns-4 : tie.Need-returns-4
 unfolding squaredReadingsVerdict
@@ -60,10 +61,9 @@ sum-of-squares-spec =
     (λ c κs. search needs)
     returns-2
     (λ c κs. search needs)
-    (λ c. search needs)
+    (λ c κs. search needs)
     (λ c κs. search needs)
     returns-3
-    (λ c. search needs)
     (λ c. let f = fits _ (passed (c .before .before .before .before)) in omega arith)
     (λ c κs. let f = fits _ (passed (c .before .before .before .before)) in ((omega arith, omega arith), λ k l. readings-near _ (close c) k (omega arith)))
     returns-4)

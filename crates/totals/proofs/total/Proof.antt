@@ -11,31 +11,32 @@ use mir.Val.{SFits}
 use mir.Facts.{toZ-ofZ}
 use Rattle.records.specs.declared.Verdict.{Verdict}
 use Rattle.records.specs.declared.SquareSum.{SquareSum}
-use Rattle.meaning.specs.Refusals.{_⨾_, accepted, clean}
+use Rattle.meaning.specs.Refusals.{_⨾_, accepted, refused, clean}
 use Rattle.meaning.specs.Calls.{slices}
+use Rattle.verdicts.proofs.Told.{refusing, accepting}
 use Rattle.weighing.proofs.Developing.{Laid}
 use Rattle.totals.proofs.Refusing.{words-long, lay, reached, total-refused, no-total-is, total-no-object, total-weighed}
 use Rattle.totals.proofs.total.Statement.{statement}
 use Rattle.totals.proofs.total.Tie as tie
 
 -- past the blocks
-module _ (c : tie.After-enum-told) where
+module _ (c : tie.Else1) where
   abbrev start : tie.Start
   start = c .before .before .before .before .before
 
   passed : slices (start .args .head) (now (start .args .blocks)) (now (start .args .readings)) ⨾ clean (start .args .head) (now (start .args .blocks)) ≡ accepted
-  passed = sym (c .before .before .developed .ensures .0) ∙ c .enum-told .given .1
+  passed = sym (c .before .before .developed .ensures .0) ∙ accepting _ (sym (c .before .is-refused .ensures) ∙ c .if1 .left)
 
   laid : Laid (start .args .head) (now (start .args .blocks)) (c .before .before .developed .last .1 .1 .1 .0)
   laid = lay _ _ _ _ _ refl (c .before .before .developed .ensures .1) passed
 
 returns : tie.Need-returns
 returns c =
-    c .no-total .ensures
-    ∙ no-total-is _ _ _ _ _ _ (total-refused _ _ _ _ _ _ (sym (c .before .before .before .before .developed .ensures .0) ∙ c .before .before .number .given .1))
+    let r = sym (c .before .before .is-refused .ensures) ∙ c .before .if1 .taken in
+    c .no-total .ensures ∙ no-total-is _ _ _ _ _ r (total-refused _ _ _ _ _ _ (sym (c .before .before .before .developed .ensures .0) ∙ refusing _ r))
 
 returns-2 : tie.Need-returns-2
-returns-2 c = c .no-total2 .ensures ∙ no-total-is _ _ _ _ _ _ (total-no-object _ _ _ _ (passed (c .before .before .before)) (search needs))
+returns-2 c = c .no-total2 .ensures ∙ no-total-is _ _ _ _ (refused 5 _) refl (total-no-object _ _ _ _ (passed (c .before .before .before)) (search needs))
 
 returns-3 : tie.Need-returns-3
 returns-3 c =
@@ -51,10 +52,9 @@ total-spec =
     tie.close
     (tie.spec
     (λ c κs. search needs)
-    (λ c. search needs)
+    (λ c κs. search needs)
     (λ c κs. search needs)
     returns
-    (λ c. search needs)
     (λ c. let f = laid (c .before) .sizes in omega arith)
     (λ c κs. search needs)
     returns-2

@@ -13,6 +13,7 @@ use Rattle.records.specs.declared.Verdict.{Verdict}
 use Rattle.meaning.specs.Design.{objects, blocks}
 use Rattle.meaning.specs.Refusals.{accepted}
 use Rattle.laws.proofs.Chains.{given-yes, given-no}
+use Rattle.verdicts.proofs.Told.{refusing, accepting}
 use Rattle.squares.proofs.Squares.{squares}
 use Rattle.squares.proofs.Answers.{square-refused, square-accepted}
 use Rattle.weighable.specs.Verdicts.{weighVerdict}
@@ -40,19 +41,19 @@ module _ (s : tie.Start) where
   squared = squaredTotalsIn words ys (blocks (s .args .head)) (objects (s .args .head))
 
 -- past the tests
-module _ (c : tie.After-enum-told) where
+module _ (c : tie.Else1) where
   abbrev start : tie.Start
   start = c .before .before .before .before
 
   passed : verdict start ≡ accepted
-  passed = sym (c .before .before .weighing-refusal .ensures) ∙ c .enum-told .given .1
+  passed = sym (c .before .before .weighing-refusal .ensures) ∙ accepting _ (sym (c .before .is-refused .ensures) ∙ c .if1 .left)
 
   stands : Weighable (start .args .head) (words start) (ys start) (length (room start))
   stands = weighable _ _ _ _ passed
 
 -- once the totals are filled
 module _ (c : tie.After-fill) where
-  abbrev told : tie.After-enum-told
+  abbrev told : tie.Else1
   told = c .before .before .before .before
 
   abbrev totals : List ℤ
@@ -66,9 +67,10 @@ module _ (c : tie.After-fill) where
 
 returns : tie.Need-returns
 returns c =
-    let s = c .before .before .before .before .before .before in
-    let e = sym (c .before .before .before .before .weighing-refusal .ensures) ∙ c .before .before .number .given .1 in
-    (c .no-sum .ensures ∙ square-refused (verdict s) (squared s) _ _ e, sym (given-no (verdict s) _ _ _ _ e))
+    let s = c .before .before .before .before .before in
+    let r = sym (c .before .before .is-refused .ensures) ∙ c .before .if1 .taken in
+    let e = sym (c .before .before .before .weighing-refusal .ensures) in
+    (c .no-sum .ensures ∙ square-refused (verdict s) (squared s) _ r e, sym (given-no (verdict s) _ _ _ _ (e ∙ refusing _ r)))
 
 squared-totals-requires : tie.Need-squared-totals-requires
 squared-totals-requires c κs =
@@ -89,10 +91,9 @@ weigh-spec =
     tie.close
     (tie.spec
     (λ c κs. search needs)
-    (λ c. search needs)
+    (λ c κs. search needs)
     (λ c κs. search needs)
     returns
-    (λ c. search needs)
     (λ c. let f = stands (c .before) .fit in omega arith)
     (λ c. let f = stands (c .before .before) .fit in omega arith)
     (λ c κs. let t = stands (c .before .before .before) in (t .weighed, (t .within, t .roomy)))

@@ -1,15 +1,19 @@
 -- The verdict of the fields, by the first test that refuses, or by none. Assumes nothing.
 use Prim.Native.Nat.{ℕ, _+_, _-_, _*_}
-use mathlib.Core.Path.{_≡_}
+use mathlib.Core.Path.{_≡_, sym, _∙_}
+use mathlib.Core.Bool.{true, false}
 use mathlib.Core.List.{List}
 use native.Mathlib.Omega.{arith}
 use borrow.Author.Tests.{eq-eqb, ne-eqb}
 use lib.ListN.{length}
+use Rattle.records.specs.declared.Verdict.{Verdict}
 use Rattle.meaning.specs.Design.{blocks, sized, listLength}
 use Rattle.meaning.specs.Refusals.{accepted, refused, _⨾_, sizes}
+use Rattle.meaning.specs.Calls.{given}
 use Rattle.meaning.specs.File.{fieldVerdict, headOf, secondAt, thirdAt, fourthAt, endAt, fields}
 use Rattle.laws.specs.Fits.{Fits}
 use Rattle.laws.proofs.Chains.{opened, held, fits}
+use Rattle.verdicts.proofs.Told.{refusing}
 
 -- an accepted head fits the sizes
 pub head-fits : (s : List ℕ) → fieldVerdict s 0 1 4 ⨾ sizes (headOf s) ≡ accepted → Fits (headOf s)
@@ -31,27 +35,27 @@ module _ (s : List ℕ) (third : ℕ) (starts : third ≡ thirdAt s) where
 
 module _ (s : List ℕ) where
   -- the first field, or the sizes that it tells
-  pub head-refuses : (k at : ℕ) → fieldVerdict s 0 1 4 ⨾ sizes (headOf s) ≡ refused k at → fields s ≡ refused k at
+  pub head-refuses : (v : Verdict) → given v false true ≡ true → v ≡ fieldVerdict s 0 1 4 ⨾ sizes (headOf s) → v ≡ fields s
   unfolding fields
-  head-refuses k at e = rw e
+  head-refuses v r e = rw (sym e ∙ refusing v r) (refusing v r)
 
   module _ (first : fieldVerdict s 0 1 4 ⨾ sizes (headOf s) ≡ accepted) where
     -- the second field
-    pub second-refuses : (k at : ℕ) → fieldVerdict s secondAt 2 (listLength (headOf s)) ≡ refused k at → fields s ≡ refused k at
+    pub second-refuses : (v : Verdict) → given v false true ≡ true → v ≡ fieldVerdict s secondAt 2 (listLength (headOf s)) → v ≡ fields s
     unfolding fields
-    second-refuses k at e = rw (first, e)
+    second-refuses v r e = rw (first, sym e ∙ refusing v r) (refusing v r)
 
     module _ (second : fieldVerdict s secondAt 2 (listLength (headOf s)) ≡ accepted) where
       -- the third
-      pub third-refuses : (k at : ℕ) → fieldVerdict s (thirdAt s) 3 16 ≡ refused k at → fields s ≡ refused k at
+      pub third-refuses : (v : Verdict) → given v false true ≡ true → v ≡ fieldVerdict s (thirdAt s) 3 16 → v ≡ fields s
       unfolding fields
-      third-refuses k at e = rw (first, second, e)
+      third-refuses v r e = rw (first, second, sym e ∙ refusing v r) (refusing v r)
 
       module _ (third : fieldVerdict s (thirdAt s) 3 16 ≡ accepted) where
         -- the fourth
-        pub fourth-refuses : (k at : ℕ) → fieldVerdict s (fourthAt s) 4 (4 * blocks (headOf s)) ≡ refused k at → fields s ≡ refused k at
+        pub fourth-refuses : (v : Verdict) → given v false true ≡ true → v ≡ fieldVerdict s (fourthAt s) 4 (4 * blocks (headOf s)) → v ≡ fields s
         unfolding fields
-        fourth-refuses k at e = rw (first, second, third, e)
+        fourth-refuses v r e = rw (first, second, third, sym e ∙ refusing v r) (refusing v r)
 
         module _ (fourth : fieldVerdict s (fourthAt s) 4 (4 * blocks (headOf s)) ≡ accepted) where
           -- bytes after it

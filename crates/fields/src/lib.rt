@@ -6,6 +6,7 @@ use design::sized;
 use reader::take;
 use records::Field;
 use records::Verdict;
+use verdicts::is_refused;
 ghost use mathlib.Core.Path.{_≡_};
 ghost use Rattle.meaning.specs.Refusals.{_⨾_, sizes};
 ghost use Rattle.meaning.specs.File.{fieldVerdict, headOf, fields};
@@ -14,21 +15,25 @@ ghost use Rattle.meaning.specs.File.{fieldVerdict, headOf, fields};
 pub fn fields_refusal(bytes: &[u8]) -> Verdict
     ensures { λ r. ⌜ r ≡ fields (now (bytes .entry)) ⌝ }
 {
-    if let Verdict::Refused(number, place) = head_refusal(bytes) {
-        return Verdict::Refused(number, place);
+    let first = head_refusal(bytes);
+    if is_refused(first) {
+        return first;
     }
     let third = third_at(bytes);
     let fourth = third + 19;
     let length = 4 * block_count(bytes);
     let end = fourth + 3 + length;
-    if let Verdict::Refused(number, place) = field_refusal(bytes, 7, 2, third - 10) {
-        return Verdict::Refused(number, place);
+    let blocks = field_refusal(bytes, 7, 2, third - 10);
+    if is_refused(blocks) {
+        return blocks;
     }
-    if let Verdict::Refused(number, place) = field_refusal(bytes, third, 3, 16) {
-        return Verdict::Refused(number, place);
+    let restraint = field_refusal(bytes, third, 3, 16);
+    if is_refused(restraint) {
+        return restraint;
     }
-    if let Verdict::Refused(number, place) = field_refusal(bytes, fourth, 4, length) {
-        return Verdict::Refused(number, place);
+    let readings = field_refusal(bytes, fourth, 4, length);
+    if is_refused(readings) {
+        return readings;
     }
     if end != bytes.len() {
         return Verdict::Refused(9, end);
@@ -40,8 +45,9 @@ pub fn fields_refusal(bytes: &[u8]) -> Verdict
 fn head_refusal(bytes: &[u8]) -> Verdict
     ensures { λ r. ⌜ r ≡ fieldVerdict (now (bytes .entry)) 0 1 4 ⨾ sizes (headOf (now (bytes .entry))) ⌝ }
 {
-    if let Verdict::Refused(number, place) = field_refusal(bytes, 0, 1, 4) {
-        return Verdict::Refused(number, place);
+    let first = field_refusal(bytes, 0, 1, 4);
+    if is_refused(first) {
+        return first;
     }
     if !sized(head_of(bytes)) {
         return Verdict::Refused(4, 0);

@@ -44,14 +44,14 @@ returns-2 c =
     let t = c .before .before .before in
     let r = sym (c .before .before .is-refused2 .ensures) ∙ c .before .if2 .taken in (
       c .no-judgement .ensures ∙ no-judgement-with _ _ _ _ _ _ _ _ _ r (analyse-rooms _ _ _ _ _ _ _ _ (passed (t .before)) ∙ sym (t .rooms-refusal .ensures) ∙ refusing _ r),
-      search (t .before .before .before .judged-job .ensures .1),
+      t .before .before .before .judged-job .ensures .1,
     )
 
 returns-3 : tie.Need-returns-3
 returns-3 c =
     let t = c .before .before in
     let j = t .before .before .before in
-    (judgement j ∙ judgement-with _ _ _ _ _ _ _ _ (passed (t .before)) (analyse-rooms _ _ _ _ _ _ _ _ (passed (t .before)) ∙ sym (t .rooms-refusal .ensures) ∙ accepting _ (sym (c .before .is-refused2 .ensures) ∙ c .if2 .left)), search (j .judged-job .ensures .1))
+    (judgement j ∙ judgement-with _ _ _ _ _ _ _ _ (passed (t .before)) (analyse-rooms _ _ _ _ _ _ _ _ (passed (t .before)) ∙ sym (t .rooms-refusal .ensures) ∙ accepting _ (sym (c .before .is-refused2 .ensures) ∙ c .if2 .left)), j .judged-job .ensures .1)
 
 pub judged-with-rooms-spec : {M : Type 1} → statement M
 judged-with-rooms-spec =

@@ -5,14 +5,12 @@
 use Prim.Native.Nat.{ℕ, _*_, _≤_, _<_}
 use mathlib.Core.Path.{_≡_, sym, ap, ap₂, _∙_}
 use mathlib.Core.Bool.{true, false, _&&_}
-use mathlib.Core.List.{List, [], replicate}
+use mathlib.Core.List.{List}
 use native.Mathlib.Nat.{add-le-add, mul-le-mul}
 use native.Mathlib.Omega.{arith}
 use lib.Dec.{eqb}
 use lib.ListN.{length, getD}
 use Rattle.algebra.specs.Ranges.{sumℕ}
-use Rattle.algebra.specs.Buffers.{over}
-use Rattle.algebra.proofs.Filling.{getD-over}
 use Rattle.algebra.proofs.Sums.{sumℕ-le-const}
 use Rattle.algebra.proofs.Tests.{all-cong}
 use Rattle.records.specs.declared.Head.{Head}
@@ -20,6 +18,7 @@ use Rattle.records.specs.declared.Verdict.{Verdict}
 use Rattle.meaning.specs.Design.{objects, blocks, occ, left, right, company, opposition, balanced, beta}
 use Rattle.meaning.specs.Refusals.{accepted}
 use Rattle.meaning.specs.Calls.{given, wordAt, designVerdict, wordsUnder, judgeVerdict, judged, tableOf, companyTable, oppositionTable}
+use Rattle.laws.proofs.Tables.{entry-of}
 use Rattle.laws.proofs.Chains.{Sound, sound, given-yes}
 use Rattle.laws.proofs.Clean.{block-once, left-objects, left-length}
 use Rattle.verdicts.specs.Zeros.{noJudgement}
@@ -31,13 +30,6 @@ use Rattle.evenness.specs.Tables.{tablesEven, tablesSized, tablesJudged}
 use Rattle.evenness.proofs.Judging.{fit-tables}
 
 -- ---- the tables of a sound design
-
--- an entry of a table of f
-pub entry-of : (v : ℕ) (f : ℕ → ℕ → ℕ) (i j : ℕ) → v ≤ 50 → i < v → j < v → entry (tableOf v f) i j ≡ f i j
-unfolding tableOf
-entry-of v f i j h hi hj =
-    ap (λ (row : List ℕ). getD row j 0) (getD-over v (λ i. over v (f i) (replicate 50 0)) (replicate 50 (replicate 50 0)) [] i hi h)
-    ∙ getD-over v (f i) (replicate 50 0) 0 j hj h
 
 module _ (h : Head) (d : List ℕ) (s : Sound h d) where
   -- an entry is that of the objects 1 and 0 just where the counts are

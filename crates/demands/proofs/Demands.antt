@@ -2,7 +2,8 @@
 -- What the functions answer is equated to these definitions in docs/PROMISES.md; what the definitions mean stands in crates/meaning (docs/READING.md gives the order).
 -- `test t k at` refuses by the number k at the place `at` unless t holds; `a ⨾ b` is the first of the two that refuses; `given v a b` is a where v accepts, else b;
 -- `float a d` is a / d rounded once to an f64; on numbers from 0 on, a difference is cut at 0.
-use mathlib.Core.Path.{_≡_, refl, sym}
+use mathlib.Core.Path.{_≡_, refl, sym, ap}
+use mathlib.Core.Logic.{_⊎_}
 use mathlib.Core.Bool.{_&&_}
 use mathlib.Core.List.{List}
 use Prim.Native.Nat.{ℕ, _+_, _-_, _*_, _^_, _≤_, _<_, _%_}
@@ -10,27 +11,28 @@ use native.Mathlib.Omega.{arith}
 use lib.Dec.{eqb, ltb, leb}
 use lib.ListN.{length, getD}
 use lib.IntN.{ℤ, pos, natAbs, _-ℤ_, _*ℤ_, _+ℤ_}
-use Rattle.algebra.specs.Ranges.{sum}
+use Rattle.algebra.specs.Ranges.{sum, sumℕ}
+use Rattle.algebra.specs.Tables.{entry}
 use Rattle.records.specs.declared.Head.{Head}
-use Rattle.meaning.specs.Design.{objects, blocks, sized, listLength, company, Balanced, balanced, beta, parametersOf, occ, left, right}
+use Rattle.meaning.specs.Design.{objects, blocks, sized, listLength, company, opposition, Balanced, balanced, beta, parametersOf, occ, left, right}
 use Rattle.meaning.specs.Analysis.{total, restrained, vbeta, numeratorOf, denominatorOf, deviationOf, squaredReadings, squaredTotals, q, qOf, freedom, spreadHundredthsOf, member, members}
 use Rattle.meaning.specs.Publishing.{published, float, Near, valueOf, noSpread, spreadOf}
 use Rattle.meaning.specs.Fractions.{Fraction, _+ᶠ_, _=ᶠ_, _≤ᶠ_, _<ᶠ_, deviationUnder, squaresUnder, KeepsRestraint, Proper, exactValues, publishedValues}
 use Rattle.meaning.specs.Refusals.{accepted, refused, test, _⨾_, room, offender, farReading, sumLimit}
-use Rattle.meaning.specs.Calls.{given, written, designVerdict, judgeVerdict, jobVerdict, solvedUnder, noParameters, noSpreading, wordAt}
-use Rattle.meaning.specs.File.{headOf, secondAt, thirdAt, fourthAt, endAt, blocksAt, readingsAt, blocksOf, setOf, sumOf, readingsOf, fields, readVerdict, solveVerdict}
+use Rattle.meaning.specs.Calls.{written, designVerdict, judgeVerdict, jobVerdict, companyTable, oppositionTable, wordsUnder, valuesUnder, deviationsUnder, solvedUnder, noParameters, noSpreading, wordAt}
+use Rattle.meaning.specs.File.{fieldVerdict, fieldAt, fieldNext, headOf, secondAt, thirdAt, fourthAt, endAt, blocksAt, readingsAt, blocksOf, setOf, sumOf, readingsOf, fields, readVerdict, solveVerdict}
 use Rattle.meaning.specs.Text.{textOf, benchText}
 use Rattle.records.specs.declared.Spread.the-variants.{Of}
 use Rattle.algebra.proofs.Filling.{getD-over, getD-past}
-use Rattle.laws.proofs.Chains.{sound, judged-sound, job, accepts, test-yes}
-use Rattle.laws.proofs.Counting.{accepts-exactly, balanced-is, parameters}
+use Rattle.laws.proofs.Chains.{given-no, sound, judged-sound, job, accepts, test-yes}
+use Rattle.laws.proofs.Counting.{company-self, opposition-self, accepts-exactly, balanced-is, parameters}
 use Rattle.laws.proofs.Analysis.{totals-cancel, restraint-kept, q-nonneg}
 use Rattle.fitting.proofs.Fractions.{exact-keeps, exact-deviation, exact-squares, exact-proper, squares-proper, least, published-excess}
 use Rattle.laws.proofs.Files.{file-job, job-file}
-use Rattle.demands.proofs.Parts.{design-flat, job-flat, word-left, word-right, job-judged, numerator-exact, denominator-exact, value-near, spread-near, spread-some, spread-most, published-half, published-half-even}
+use Rattle.demands.proofs.Parts.{design-flat, job-flat, table-counts, table-zeros, word-left, word-right, job-judged, numerator-exact, denominator-exact, value-near, spread-near, spread-some, spread-most, published-half, published-half-even}
 use Rattle.filing.proofs.Cut.{bench-text}
 use Rattle.filing.proofs.Enough.{text-length}
-use Rattle.demands.proofs.Order.{start, tagged, long, body, file-order, rooms-flat, none-exactly}
+use Rattle.demands.proofs.Order.{start, tagged, long, body, file-order, fields-led, reader-stays, rooms-flat, none-exactly}
 
 -- ---- DEMAND 1. For every job file and every direct call it ends without a fault (that is by the language). A bad job is refused by a listed number at a
 -- ---- listed place in a listed order, and a refusal changes nothing that the caller lent.
@@ -48,12 +50,21 @@ pub refused-in-order : (s : List ℕ) → readVerdict s ≡
     ⨾ test (eqb (farReading (readingsOf s)) (length (readingsOf s))) 8 (readingsAt s + 4 * farReading (readingsOf s))
 refused-in-order s = file-order s
 
+-- a reader led past the four fields of a file whose fields are in order stands at each field's start, and then at the end; where a field is refused it stays at its start
+pub reader-keeps-its-position : (s : List ℕ) → fields s ≡ accepted →
+    (fieldNext (fieldAt s 0 1 4) 0 ≡ secondAt) × (fieldNext (fieldAt s secondAt 2 (listLength (headOf s))) secondAt ≡ thirdAt s)
+    × (fieldNext (fieldAt s (thirdAt s) 3 16) (thirdAt s) ≡ fourthAt s) × (fieldNext (fieldAt s (fourthAt s) 4 (4 * blocks (headOf s))) (fourthAt s) ≡ length s)
+reader-keeps-its-position s e = fields-led s e
+
+pub refused-reader-stays : (s : List ℕ) (at tag len k place : ℕ) → fieldVerdict s at tag len ≡ refused k place → (fieldNext (fieldAt s at tag len) at ≡ at) × (place ≡ at)
+refused-reader-stays s at tag len k place e = reader-stays s at tag len k place e
+
 -- solving asks for its three rooms last
 pub rooms-last : (s : List ℕ) (words values deviations : ℕ) → solveVerdict s words values deviations ≡
     readVerdict s ⨾ room words (2 * blocks (headOf s)) ⨾ room values (objects (headOf s)) ⨾ room deviations (blocks (headOf s))
 rooms-last s words values deviations = rooms-flat s words values deviations
 
--- direct calls: a block list by 4, 3, 5; a whole job by 4, 3, 3, 5, 6, 7, 8; one object by the same, its number after the other 5
+-- direct calls: a block list by 4, 3, 5; a whole job by 4, 3, 3, 5, 6, 7, 8; every other call stands in Calls.antt beside this page, in the same form
 pub designs-in-order : (h : Head) (d : List ℕ) → designVerdict h d ≡
     test (sized h) 4 0 ⨾ test (eqb (length d) (listLength h)) 3 0 ⨾ test (eqb (offender h d) (length d)) 5 (offender h d)
 designs-in-order h d = design-flat h d
@@ -64,14 +75,17 @@ pub jobs-in-order : (h : Head) (d : List ℕ) (y : List ℤ) (w : ℕ) (M : ℤ)
     ⨾ test (ltb 0 w && ltb w (2 ^ objects h) && leb (natAbs M) sumLimit) 7 0 ⨾ test (eqb (farReading y) (length y)) 8 (farReading y)
 jobs-in-order h d y w M = job-flat h d y w M
 
--- a refusal leaves a lent buffer as it was, and hands back zeros and no spread; an acceptance writes the first c entries, and later ones stay
-pub refusal-changes-nothing : {A : Type 0} (k at c : ℕ) (f : ℕ → A) (after buffer : List A) → (written (refused k at) c f buffer ≡ buffer) × (given (refused k at) after buffer ≡ buffer)
-refusal-changes-nothing k at c f after buffer = (refl, refl)
+-- refusing a file, solving leaves each of the three rooms that it was lent as it was, and hands back zeros and no spread (every other call: Calls.antt, Writing.antt)
+pub refusal-changes-nothing : (s words : List ℕ) (values deviations : List ℤ) (k at : ℕ) → let v = solveVerdict s (length words) (length values) (length deviations) in v ≡ refused k at →
+    (wordsUnder v (headOf s) (blocksOf s) words ≡ words) × (valuesUnder v (headOf s) (blocksOf s) (readingsOf s) (setOf s) (sumOf s) values ≡ values)
+    × (deviationsUnder v (headOf s) (blocksOf s) (readingsOf s) deviations ≡ deviations)
+refusal-changes-nothing s words values deviations k at e = (given-no _ _ words k at e, given-no _ _ values k at e, given-no _ _ deviations k at e)
 
-pub refusal-hands-back-zeros : (k at : ℕ) (h : Head) (d : List ℕ) (y : List ℤ) (w : ℕ) →
-    solvedUnder (refused k at) h d y w ≡ record { verdict = refused k at; parameters = noParameters; denominator = 0; spreading = noSpreading }
-refusal-hands-back-zeros k at h d y w = refl
+pub refusal-hands-back-zeros : (s : List ℕ) (words values deviations k at : ℕ) → let v = solveVerdict s words values deviations in v ≡ refused k at →
+    solvedUnder v (headOf s) (blocksOf s) (readingsOf s) (setOf s) ≡ record { verdict = refused k at; parameters = noParameters; denominator = 0; spreading = noSpreading }
+refusal-hands-back-zeros s words values deviations k at e = ap (λ v. solvedUnder v (headOf s) (blocksOf s) (readingsOf s) (setOf s)) e
 
+-- an acceptance writes the first c entries, and later ones stay
 pub acceptance-writes : {A : Type 0} (c : ℕ) (f : ℕ → A) (buffer : List A) (z : A) (i : ℕ) → c ≤ length buffer →
     (i < c → getD (written accepted c f buffer) i z ≡ f i) × (c ≤ i → getD (written accepted c f buffer) i z ≡ getD buffer i z)
 acceptance-writes c f buffer z i l = (λ m. getD-over c f buffer z i m l, λ m. getD-past c f buffer z i m)
@@ -97,11 +111,25 @@ module _ (h : Head) (d : List ℕ) (well-formed : designVerdict h d ≡ accepted
   pub words-are-the-sides : (k : ℕ) → k < blocks h → (i : ℕ) → (member (wordAt h d (2 * k)) i ≡ occ i (left h d k)) × (member (wordAt h d (2 * k + 1)) i ≡ occ i (right h d k))
   words-are-the-sides k l i = (word-left h d (sound h d well-formed) k l i, word-right h d (sound h d well-formed) k l i)
 
+  -- the pair tables hold for every two objects how often they share a side and oppose; an object with itself has its blocks, and 0; a row or a column of no object has zeros
+  pub tables-are-the-counts : (i j : ℕ) → i < objects h → j < objects h → (entry (companyTable h d) i j ≡ company h d i j) × (entry (oppositionTable h d) i j ≡ opposition h d i j)
+  tables-are-the-counts i j a b = (table-counts h d well-formed (company h d) i j a b, table-counts h d well-formed (opposition h d) i j a b)
+
+  pub tables-of-one-object : (i : ℕ) → i < objects h → (company h d i i ≡ sumℕ (blocks h) (λ k. occ i (left h d k) + occ i (right h d k))) × (opposition h d i i ≡ 0)
+  tables-of-one-object i a = (company-self h d (sound h d well-formed) i a, opposition-self h d (sound h d well-formed) i a)
+
+  pub tables-elsewhere : (i j : ℕ) → (objects h ≤ i) ⊎ (objects h ≤ j) → (entry (companyTable h d) i j ≡ 0) × (entry (oppositionTable h d) i j ≡ 0)
+  tables-elsewhere i j o = (table-zeros h d well-formed (company h d) i j o, table-zeros h d well-formed (opposition h d) i j o)
+
+  -- all T add to 0, whatever the readings, balanced or not
+  pub totals-add-to-0 : (y : List ℤ) → sum (objects h) (total h d y) ≡ pos 0
+  totals-add-to-0 = totals-cancel h d (sound h d well-formed)
+
   -- v, b, p are the head's; beta = L2 - L1 is positive; each object stands in r = beta(v-1) blocks; 2pb = beta·v(v-1); f = b - v + 1 is not negative
   pub parameters-are-the-papers : judgeVerdict h d ≡ accepted → let P = parametersOf h d in
       (P .v ≡ h .n + h .flag) × (P .b ≡ h .m * h .n) × (P .p ≡ h .p) × (P .l1 + beta h d ≡ P .l2) × (0 < beta h d)
-      × ((i : ℕ) → i < objects h → company h d i i ≡ P .r) × (P .r ≡ beta h d * (P .v - 1)) × (2 * P .p * P .b ≡ beta h d * P .v * (P .v - 1)) × (freedom h + P .v ≡ P .b + 1)
-  parameters-are-the-papers e = let (s, b) = judged-sound h d e in let n = parameters h d s b in (refl, refl, refl, n .beta-is, n .positive, n .repeats, refl, n .size, omega (arith, n .enough))
+      × ((i : ℕ) → i < objects h → sumℕ (blocks h) (λ k. occ i (left h d k) + occ i (right h d k)) ≡ P .r) × (P .r ≡ beta h d * (P .v - 1)) × (2 * P .p * P .b ≡ beta h d * P .v * (P .v - 1)) × (freedom h + P .v ≡ P .b + 1)
+  parameters-are-the-papers e = let (s, b) = judged-sound h d e in let n = parameters h d s b in (refl, refl, refl, n .beta-is, n .positive, n .stands, refl, n .size, omega (arith, n .enough))
 
 -- an accepted file holds an accepted job, and one whose fields are in order and that holds an accepted job is accepted
 pub file-holds-a-job : (s : List ℕ) → readVerdict s ≡ accepted → jobVerdict (headOf s) (blocksOf s) (readingsOf s) (setOf s) (sumOf s) ≡ accepted
@@ -111,12 +139,9 @@ pub job-in-a-file : (s : List ℕ) → fields s ≡ accepted → jobVerdict (hea
 job-in-a-file = job-file
 
 module _ (h : Head) (d : List ℕ) (y : List ℤ) (w : ℕ) (M : ℤ) (e : jobVerdict h d y w M ≡ accepted) where
-  -- its design is accepted; all T add to 0; over the restraint set the numerators add to M times the denominator
+  -- its design is accepted; over the restraint set the numerators add to M times the denominator
   pub job-is-balanced : judgeVerdict h d ≡ accepted
   job-is-balanced = job-judged h d y w M e
-
-  pub totals-add-to-0 : sum (objects h) (total h d y) ≡ pos 0
-  totals-add-to-0 = totals-cancel h d (job h d y w M e .measures .design) y
 
   pub numerators-add-to-M : restrained (objects h) w (numeratorOf h d y w M) ≡ M *ℤ pos (denominatorOf h d w)
   numerators-add-to-M = restraint-kept h d y w M

@@ -2,5 +2,6 @@
 pub mod Order
 pub mod Parts
 pub mod Demands
+pub mod Calls
 pub mod Files
 pub mod Writing

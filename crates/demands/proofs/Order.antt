@@ -1,4 +1,4 @@
--- The verdict of a file as one flat row of tests, in file order. Assumes nothing.
+-- The verdict of a file as one flat row of tests, in file order, and where a reader stands meanwhile. Assumes nothing.
 use mathlib.Core.Path.{_≡_, refl, sym, _∙_, ap}
 use mathlib.Core.Bool.{Bool, true, false, _&&_}
 use mathlib.Core.List.{List}
@@ -9,10 +9,12 @@ use lib.IntN.{natAbs}
 use Rattle.records.specs.declared.Verdict.{Verdict}
 use Rattle.records.specs.declared.Verdict.the-variants.{Accepted, Refused}
 use Rattle.meaning.specs.Design.{objects, blocks, sized, listLength, balanced}
-use Rattle.meaning.specs.Refusals.{test, _⨾_, room, offender, farReading, sumLimit}
+use Rattle.meaning.specs.Refusals.{accepted, refused, place, test, _⨾_, room, offender, farReading, sumLimit}
 use Rattle.meaning.specs.Publishing.{noSpread, spreadOf, spreadFreedom}
 use Rattle.meaning.specs.Calls.{contents, rooms}
-use Rattle.meaning.specs.File.{big, fieldVerdict, headOf, secondAt, thirdAt, fourthAt, endAt, blocksAt, readingsAt, blocksOf, setOf, sumOf, readingsOf, fields, placed, readVerdict, solveVerdict}
+use Rattle.meaning.specs.File.{big, fieldVerdict, fieldUnder, fieldAt, fieldNext, headOf, secondAt, thirdAt, fourthAt, endAt, blocksAt, readingsAt, blocksOf, setOf, sumOf, readingsOf, fields, placed, readVerdict, solveVerdict}
+use Rattle.laws.proofs.Chains.{refused-is-not, opened}
+use Rattle.laws.proofs.Files.{filed}
 
 -- the tests of a field at `at`: its three-byte start, its tag, its length, its body
 abbrev pub start : List ℕ → ℕ → Verdict
@@ -82,6 +84,42 @@ file-order s =
     (ltb 0 (setOf s) && ltb (setOf s) (2 ^ objects (headOf s)) && leb (natAbs (sumOf s)) sumLimit) (eqb (farReading (readingsOf s)) (length (readingsOf s)))
     (offender (headOf s) (blocksOf s)) (farReading (readingsOf s))
     ∙ ap (flatContents s) (fields-flat s)
+
+-- ---- a reader led past the fields
+
+-- an accepted field leads past it
+led-past : (s : List ℕ) (at tag len : ℕ) → fieldVerdict s at tag len ≡ accepted → fieldNext (fieldAt s at tag len) at ≡ at + 3 + len
+unfolding fieldAt
+led-past s at tag len e = ap (λ v. fieldNext (fieldUnder v at len) at) e
+
+-- each of four accepted fields leads to the next, and the last to the end
+pub fields-led : (s : List ℕ) → fields s ≡ accepted →
+    (fieldNext (fieldAt s 0 1 4) 0 ≡ secondAt) × (fieldNext (fieldAt s secondAt 2 (listLength (headOf s))) secondAt ≡ thirdAt s)
+    × (fieldNext (fieldAt s (thirdAt s) 3 16) (thirdAt s) ≡ fourthAt s) × (fieldNext (fieldAt s (fourthAt s) 4 (4 * blocks (headOf s))) (fourthAt s) ≡ length s)
+unfolding fields
+fields-led s e =
+    let a = opened _ _ e in
+    let b = opened _ _ (a .0) in
+    let c = opened _ _ (b .0) in
+    let f = opened _ _ (c .0) in
+    let g = opened _ _ (f .0) in
+    (led-past s 0 1 4 (g .0), led-past s secondAt 2 (listLength (headOf s)) (f .1), led-past s (thirdAt s) 3 16 (c .1), led-past s (fourthAt s) 4 (4 * blocks (headOf s)) (b .1) ∙ filed s e .ends)
+
+-- each test of a field refuses at the field's start
+refused-at : (a b c f : Bool) (at k there : ℕ) → test a 1 at ⨾ test b 2 at ⨾ test c 3 at ⨾ test f 1 at ≡ refused k there → there ≡ at
+refused-at false b c f at k there e = ap place (sym e)
+refused-at true false c f at k there e = ap place (sym e)
+refused-at true true false f at k there e = ap place (sym e)
+refused-at true true true false at k there e = ap place (sym e)
+refused-at true true true true at k there e = refused-is-not k there (sym e)
+
+-- so a refused field leaves the reader there
+pub reader-stays : (s : List ℕ) (at tag len k there : ℕ) → fieldVerdict s at tag len ≡ refused k there → (fieldNext (fieldAt s at tag len) at ≡ at) × (there ≡ at)
+unfolding fieldAt fieldVerdict
+reader-stays s at tag len k there e =
+    (ap (λ v. fieldNext (fieldUnder v at len) at) e, refused-at (leb (at + 3) (length s)) (eqb (getD s at 0) tag) (eqb (big s (at + 1) 2) len) (leb (at + 3 + len) (length s)) at k there e)
+
+-- ---- rooms and spread
 
 -- the rooms of solving, taken out of their chain
 pub rooms-flat : (s : List ℕ) (words values deviations : ℕ) → solveVerdict s words values deviations ≡

@@ -1,5 +1,6 @@
--- Small laws that the page of demands cites: direct calls as flat rows of tests, what acceptance writes, and that the numbers of an accepted job convert without loss. Assumes nothing.
-use mathlib.Core.Path.{_≡_, refl}
+-- Small laws that the pages of demands cite: direct calls as flat rows of tests, the pair tables, what acceptance writes, and that the numbers of an accepted job convert without loss. Assumes nothing.
+use mathlib.Core.Path.{_≡_, refl, ap, _∙_}
+use mathlib.Core.Logic.{_⊎_}
 use mathlib.Core.Bool.{_&&_}
 use mathlib.Core.List.{List}
 use Prim.Native.Nat.{ℕ, zero, suc, _+_, _*_, _/_, _%_, _^_, _<_, _≤_}
@@ -7,6 +8,7 @@ use native.Mathlib.Omega.{arith}
 use lib.Dec.{eqb, ltb, leb}
 use lib.ListN.{length}
 use lib.IntN.{ℤ, pos, natAbs, _-ℤ_, _*ℤ_}
+use Rattle.algebra.specs.Tables.{entry}
 use Rattle.records.specs.declared.Head.{Head}
 use Rattle.records.specs.declared.Spread.the-variants.{Of}
 use Rattle.records.specs.declared.Verdict.{Verdict}
@@ -15,10 +17,11 @@ use Rattle.meaning.specs.Design.{objects, blocks, sized, listLength, occ, left,
 use Rattle.meaning.specs.Analysis.{member, numeratorOf, denominatorOf, spreadHundredthsOf, vbeta, qOf, freedom}
 use Rattle.meaning.specs.Publishing.{float, spreadOf, Near, published}
 use Rattle.meaning.specs.Refusals.{accepted, test, _⨾_, offender, farReading, sumLimit}
-use Rattle.meaning.specs.Calls.{wordAt, designVerdict, judgeVerdict, slices, contents, jobVerdict, valueVerdict}
+use Rattle.meaning.specs.Calls.{given, wordAt, designVerdict, noTable, tableOf, judgeVerdict, slices, contents, jobVerdict}
 use Rattle.laws.proofs.Rounding.{published-near, published-even, spread-largest}
-use Rattle.laws.proofs.Chains.{Sound, sound-accepted, accepts, test-yes, Job, job}
+use Rattle.laws.proofs.Chains.{given-yes, Sound, sound, sound-accepted, accepts, test-yes, Job, job}
 use Rattle.laws.proofs.Clean.{block-once}
+use Rattle.laws.proofs.Tables.{entry-of, entry-elsewhere}
 use Rattle.laws.proofs.Analysis.{job-denominator, vbeta-some}
 use Rattle.laws.proofs.Sizes.{denominator-most, numerator-most, hundredths-most, q-in-range}
 use Rattle.quotient.proofs.Floats.{float-near}
@@ -46,13 +49,25 @@ job-flat h d y w M = four (test (sized h) 4 0 ⨾ test (eqb (length d) (listLeng
     four Accepted b c e f = refl
     four (Refused k at) b c e f = refl
 
--- a missing object after the bytes and before balance
-pub value-flat : (h : Head) (d : List ℕ) (y : List ℤ) (w : ℕ) (M : ℤ) (i : ℕ) → valueVerdict h d y w M i ≡
-    test (sized h) 4 0 ⨾ test (eqb (length d) (listLength h)) 3 0 ⨾ test (eqb (length y) (blocks h)) 3 0
-    ⨾ test (eqb (offender h d) (length d)) 5 (offender h d) ⨾ test (ltb i (objects h)) 5 i ⨾ test (balanced h d) 6 0
-    ⨾ test (ltb 0 w && ltb w (2 ^ objects h) && leb (natAbs M) sumLimit) 7 0 ⨾ test (eqb (farReading y) (length y)) 8 (farReading y)
-unfolding valueVerdict slices
-value-flat h d y w M i = refl
+-- ---- the pair tables
+
+module _ (h : Head) (d : List ℕ) (e : designVerdict h d ≡ accepted) (f : ℕ → ℕ → ℕ) (i j : ℕ) where
+  abbrev handed : List (List ℕ)
+  handed = given (designVerdict h d) (tableOf (objects h) f) noTable
+
+  -- what is handed out for an accepted block list is the table
+  is-table : handed ≡ tableOf (objects h) f
+  is-table = given-yes _ _ noTable e
+
+  few : objects h ≤ 50
+  few = sound h d e .sizes .objects-most
+
+  -- its entries, and zeros elsewhere
+  pub table-counts : i < objects h → j < objects h → entry handed i j ≡ f i j
+  table-counts a b = ap (λ (t : List (List ℕ)). entry t i j) is-table ∙ entry-of (objects h) f i j few a b
+
+  pub table-zeros : (objects h ≤ i) ⊎ (objects h ≤ j) → entry handed i j ≡ 0
+  table-zeros o = ap (λ (t : List (List ℕ)). entry t i j) is-table ∙ entry-elsewhere (objects h) f i j few o
 
 -- ---- what acceptance writes
 

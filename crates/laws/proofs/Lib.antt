@@ -4,6 +4,7 @@ pub mod Occurrences
 pub mod Clean
 pub mod Incidence
 pub mod Counting
+pub mod Tables
 pub mod LeastSquares
 pub mod Matrix
 pub mod Solution

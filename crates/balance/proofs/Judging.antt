@@ -11,6 +11,7 @@ use native.Mathlib.Omega.{arith}
 use lib.Dec.{eqb}
 use lib.ListN.{length, getD}
 use Rattle.algebra.specs.Ranges.{sumℕ}
+use Rattle.algebra.proofs.Filling.{getD-over}
 use Rattle.algebra.proofs.Sums.{sumℕ-le-const}
 use Rattle.algebra.proofs.Tests.{all-cong}
 use Rattle.records.specs.declared.Head.{Head}

@@ -1,4 +1,6 @@
-// The bench: reads a job file from standard input, up to 8,192 bytes, and prints its listing. A read that fails counts as the end.
+// The bench: reads a job file from standard input, up to 8,192 bytes, and prints its listing. A read that fails counts as the end. A listing that cannot be written whole is said to
+// be so on standard error: a program sets no exit status of its own.
+use libc::STDERR_FILENO;
 use libc::STDIN_FILENO;
 use libc::STDOUT_FILENO;
 ghost use mathlib.Core.Path.{_≡_};
@@ -12,7 +14,9 @@ fn main() {
     let n = io::read_full(STDIN_FILENO, &mut input);
     let mut text = [0u8; 65536];
     let length = put_text(&input[..n], &mut text);
-    io::write_all(STDOUT_FILENO, &text[..length]);
+    if !io::write_all(STDOUT_FILENO, &text[..length]) {
+        io::write_all(STDERR_FILENO, b"bench: the listing could not be written\n");
+    }
 }
 
 // The text for a file at the front of `text`, and its length: what is printed. 64 KiB are room for every text.

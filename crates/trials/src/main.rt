@@ -20,7 +20,7 @@ fn run_one(i: usize) {
     let length = os::arg(i, &mut name);
     let fd = os::open_read(&name[..length]);
     if fd < 0 {
-        os::fail(b"cannot open a file");
+        os::fail(&name[..length]);
         return;
     }
     let mut input = [0u8; 8192];

@@ -39,7 +39,7 @@ module _ (c : tie.After-restraint-refusal) where
   judgement = c .before .before .before
 
   restraint-is : restraint (start judgement .args .head) (start judgement .args .set) (start judgement .args .sum) ≡ c .restraint-refusal .result
-  restraint-is = sym (rw (toZ-ofZ (start judgement .fits .sum)) at (c .restraint-refusal .ensures))
+  restraint-is = search (sym (rw (toZ-ofZ (start judgement .fits .sum)) at (c .restraint-refusal .ensures)))
 
 -- past the restraint
 restrained : (c : tie.Else3) → restraint (start (judgement (c .before .before)) .args .head) (start (judgement (c .before .before)) .args .set) (start (judgement (c .before .before)) .args .sum) ≡ accepted

@@ -1,2 +1,3 @@
--- What the promises determine.
+-- What the walks of a reader's functions have in common, and what the promises determine.
+pub mod Apart
 pub mod Determined

@@ -1,4 +1,4 @@
-// The one rounded f64 of a fraction, its nearest hundredths, and the making of a Value. All are total: outside the exact range they answer 0, and no caller goes there.
+// The one rounded f64 of a fraction, its nearest hundredths, and the making of a Value. All are total: outside the exact range they answer 0. A refused value is 0 over 0, made so; no other caller goes there.
 use records::Value;
 ghost use mathlib.Core.Path.{_≡_};
 ghost use mathlib.Core.Bool.{true};

@@ -1,9 +1,15 @@
 /* The mass bench for C: four calls of target/staticlib/libapi.a, which `rt staticlib api` writes.
  *
  * Each call takes any input, ends, and hands back a refusal number, 0 where it accepts. The rest of its answer is laid into
- * `answer`, slot by slot, as far as it is long; later slots stay. On a refusal slot 0 is the place and every other slot is 0.
+ * `answer`: the call's own slots, listed below, from the front. A shorter `answer` takes the first of them; of a longer one the
+ * slots after the call's own stay as they were. Where bench_judge, bench_solve or bench_write refuses, slot 0 is the place and
+ * its other slots are 0. bench_listing has no place: its one slot is the length of the text, 0 where it refuses.
  * A lent buffer is a pointer and its length in elements. The pointer is not NULL, also where the length is 0, and buffers
  * that a call writes overlap no other buffer of the call. A refusal writes nothing but `answer` and `spread`.
+ *
+ * Calls may be made from several threads at once, each with its own buffers to write: the library keeps nothing between calls.
+ * Of the stack bench_judge and bench_write take about 62 KB each, bench_solve 68 KB, bench_listing 99 KB; a thread that makes
+ * them needs about 104 KB with what the thread itself takes. That is measured with the archive for x86-64, not proved.
  *
  * no. | given when                                                                            | place
  *   1 | a field's three-byte start or its body runs past the end                              | field start
@@ -25,12 +31,16 @@
 #include <stddef.h>
 #include <stdint.h>
 
+#ifdef __cplusplus
+extern "C" {
+#endif
+
 /* Room that is enough for every job. */
 enum { BENCH_WORDS = 2600, BENCH_VALUES = 50, BENCH_DEVIATIONS = 1300, BENCH_FILE = 6584, BENCH_TEXT = 65536 };
 
 /* The slots of `answer`. */
 enum {
-    BENCH_PLACE = 0,       /* of a refusal; 0 where the call accepts */
+    BENCH_PLACE = 0,       /* of a refusal, but for bench_listing; 0 where the call accepts */
     BENCH_V = 1,           /* objects */
     BENCH_B = 2,           /* blocks */
     BENCH_R = 3,           /* beta(v - 1) */
@@ -83,5 +93,9 @@ uint8_t bench_write(size_t n, size_t flag, size_t p, size_t m,
 uint8_t bench_listing(const uint8_t *bytes, size_t bytes_length,
                       uint8_t *out, size_t out_length,
                       uint64_t *answer, size_t answer_length);
+
+#ifdef __cplusplus
+}
+#endif
 
 #endif

@@ -102,7 +102,7 @@ fn written(draft: &Draft, room: usize) -> Written {
     let mut out = vec![UNTOUCHED; room];
     let head = Head { n: draft.n.into(), fixed: draft.flag == 1, p: draft.p.into(), m: draft.m.into() };
     let answer = write_into(head, &draft.objects, draft.restraint, draft.sum, &draft.readings, &mut out);
-    (answer.map_err(|refusal| (refusal.reason as u8, refusal.place)), out)
+    (answer.map_err(|refusal| (refusal.reason.number(), refusal.place)), out)
 }
 
 fn same(about: &str, found: Written, wanted: Written) -> Result<(), String> {

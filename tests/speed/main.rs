@@ -112,7 +112,7 @@ struct Rooms {
 }
 
 fn rooms() -> Rooms {
-    Rooms { words: vec![0; 2600], values: vec![0; 50], deviations: vec![0; 1300] }
+    Rooms { words: vec![0; mass_bench::WORDS], values: vec![0; mass_bench::VALUES], deviations: vec![0; mass_bench::DEVIATIONS] }
 }
 
 fn solve_proved(job: &Job, rooms: &mut Rooms) -> Option<(u64, u64)> {

@@ -72,9 +72,13 @@ pub fn trial(fixed: &[Trial], seed: u64, index: u64) -> Trial {
     }
 }
 
+/// The number of jobs that takes in every fixed one; with fewer a comparison would leave some out and not say so.
+pub fn least(fixed: &[Trial]) -> u64 {
+    4 * fixed.len() as u64
+}
+
 /// The number of jobs on which the program fails. Several run at a time; what is told comes in the order of the jobs.
-pub fn compare(program: &[String], seed: u64, count: u64) -> u64 {
-    let fixed = fixed();
+pub fn compare(program: &[String], fixed: &[Trial], seed: u64, count: u64) -> u64 {
     let next = AtomicU64::new(0);
     let failures = Mutex::new(Vec::new());
     let answers = Mutex::new(BTreeMap::new());
@@ -86,7 +90,7 @@ pub fn compare(program: &[String], seed: u64, count: u64) -> u64 {
                 if index >= count {
                     return;
                 }
-                let trial = trial(&fixed, seed, index);
+                let trial = trial(fixed, seed, index);
                 let expected = listing(&trial.bytes);
                 *answers.lock().expect("no worker stops").entry(kind(&expected)).or_insert(0) += 1;
                 if let Err(failure) = run(program, &trial.bytes, &expected, index % 50 == 0) {
@@ -133,14 +137,21 @@ fn run(program: &[String], bytes: &[u8], expected: &str, slowly: bool) -> Result
     let _ = input.write_all(second);
     drop(input);
     let output = child.wait_with_output().map_err(|error| error.to_string())?;
+    let said = String::from_utf8_lossy(&output.stderr);
+    let aside = said.lines().next().map_or(String::new(), |line| format!("; on standard error it says `{line}`"));
     if !output.status.success() {
-        return Err(format!("it ends with {}", output.status));
+        return Err(format!("it ends with {}{aside}", output.status));
     }
     if output.stdout != expected.as_bytes() {
         let printed = String::from_utf8_lossy(&output.stdout).into_owned();
         let mut pairs = printed.split('\n').zip(expected.split('\n'));
         let (found, wanted) = pairs.find(|(found, wanted)| found != wanted).unwrap_or(("", "more or fewer lines"));
-        return Err(format!("it prints `{found}`, the count `{wanted}`"));
+        return Err(format!("it prints `{found}`, the count `{wanted}`{aside}"));
     }
-    Ok(())
+    // The bench has nothing to say beside its listing.
+    if aside.is_empty() {
+        Ok(())
+    } else {
+        Err(format!("it prints what it should{aside}"))
+    }
 }

@@ -34,37 +34,47 @@ count selftest                          the figures of the request";
 fn main() -> ExitCode {
     let arguments: Vec<String> = std::env::args().skip(1).collect();
     let words: Vec<&str> = arguments.iter().map(String::as_str).collect();
-    let done = match words[..] {
-        ["listing"] => print_listing(),
-        ["make", folder] => stored::make(Path::new(folder)),
-        ["verify", folder] => stored::verify(Path::new(folder)).map(|count| println!("{count} stored files are what the count makes")),
-        ["job", seed, index] => number(seed).and_then(|seed| write_job(seed, number(index)?)),
-        ["lists"] => {
-            stored::list_rows().iter().for_each(|row| println!("{row}"));
-            Ok(())
-        }
-        ["selftest"] => {
-            println!("{} figures as the request has them", selftest::selftest());
-            Ok(())
-        }
-        ["compare", ref program @ .., "--", seed, count] if !program.is_empty() => {
-            number(seed).and_then(|seed| compare_all(&arguments[1..1 + program.len()], seed, number(count)?))
-        }
-        _ => Err(USAGE.to_string()),
+    let (message, status) = match done(&words, &arguments) {
+        Ok(()) => return ExitCode::SUCCESS,
+        Err(Stop::Found(message)) => (message, 1),
+        Err(Stop::Asked(message)) => (message, 2),
     };
-    match done {
-        Ok(()) => ExitCode::SUCCESS,
-        Err(message) => {
-            if !message.is_empty() {
-                eprintln!("{message}");
-            }
-            ExitCode::FAILURE
-        }
+    if !message.is_empty() {
+        eprintln!("{message}");
+    }
+    ExitCode::from(status)
+}
+
+/// Why nothing more is done: something was found to be wrong, status 1, or what was asked for makes no sense, status 2.
+enum Stop {
+    Found(String),
+    Asked(String),
+}
+
+impl From<String> for Stop {
+    fn from(message: String) -> Stop {
+        Stop::Found(message)
     }
 }
 
-fn number(word: &str) -> Result<u64, String> {
-    word.parse().map_err(|_| format!("{word} is no number"))
+fn done(words: &[&str], arguments: &[String]) -> Result<(), Stop> {
+    match words {
+        ["listing"] => print_listing()?,
+        ["make", folder] => stored::make(Path::new(folder))?,
+        ["verify", folder] => println!("{} stored files are what the count makes", stored::verify(Path::new(folder))?),
+        ["job", seed, index] => write_job(number(seed)?, number(index)?)?,
+        ["lists"] => stored::list_rows().iter().for_each(|row| println!("{row}")),
+        ["selftest"] => println!("{} figures as the request has them", selftest::selftest()),
+        ["compare", program @ .., "--", seed, count] if !program.is_empty() => {
+            compare_all(&arguments[1..1 + program.len()], number(seed)?, number(count)?)?
+        }
+        _ => return Err(Stop::Asked(USAGE.to_string())),
+    }
+    Ok(())
+}
+
+fn number(word: &str) -> Result<u64, Stop> {
+    word.parse().map_err(|_| Stop::Asked(format!("{word} is no number")))
 }
 
 fn print_listing() -> Result<(), String> {
@@ -85,12 +95,17 @@ fn write_job(seed: u64, index: u64) -> Result<(), String> {
 }
 
 /// The last line tells how many passed, as the gate's own last line does; so nothing is said after it.
-fn compare_all(program: &[String], seed: u64, count: u64) -> Result<(), String> {
-    let failed = compare::compare(program, seed, count);
+fn compare_all(program: &[String], seed: u64, count: u64) -> Result<(), Stop> {
+    let fixed = compare::fixed();
+    let least = compare::least(&fixed);
+    if count < least {
+        return Err(Stop::Asked(format!("COUNT is {count}, but must be at least {least}: every fourth job is one of {} that are always tried", fixed.len())));
+    }
+    let failed = compare::compare(program, &fixed, seed, count);
     println!("{} passed, {failed} failed", count - failed);
     if failed == 0 {
         Ok(())
     } else {
-        Err(String::new())
+        Err(Stop::Found(String::new()))
     }
 }

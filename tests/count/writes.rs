@@ -27,10 +27,10 @@ use std::collections::BTreeMap;
 use std::process::ExitCode;
 
 fn main() -> ExitCode {
-    let numbers: Vec<u64> = std::env::args().skip(1).filter_map(|word| word.parse().ok()).collect();
-    let [seed, count] = numbers[..] else {
-        eprintln!("writes SEED COUNT");
-        return ExitCode::FAILURE;
+    let numbers: Vec<Option<u64>> = std::env::args().skip(1).map(|word| word.parse().ok()).collect();
+    let [Some(seed), Some(count)] = numbers[..] else {
+        eprintln!("usage: writes SEED COUNT, two whole numbers");
+        return ExitCode::from(2);
     };
     let (mut alike, mut failed) = (BTreeMap::new(), 0);
     let mut tell = |about: String, outcome: Result<String, String>| match outcome {

@@ -28,7 +28,8 @@ impl Job {
         let mut seed = 1u32;
         for _ in 0..head.m * n {
             seed = seed.wrapping_mul(1664525).wrapping_add(1013904223);
-            file.extend(((seed >> 8) as i32 % 200_001).to_be_bytes());
+            // of both signs, over their whole range
+            file.extend(((seed >> 8) as i32 % 400_001 - 200_000).to_be_bytes());
         }
         Job { head, blocks, file }
     }
@@ -70,6 +71,7 @@ fn clock() -> f64 {
     }
     const THREAD: i32 = 3;
     let mut time = [0; 2];
+    // Sound: the call writes one timespec, which on 64-bit Linux is two i64, and `time` is ours alone.
     assert_eq!(unsafe { clock_gettime(THREAD, &mut time) }, 0);
     time[0] as f64 + time[1] as f64 * 1e-9
 }

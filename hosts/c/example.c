@@ -14,6 +14,10 @@ static int told(uint8_t refused) {
 }
 
 int main(int argc, char **argv) {
+    if (argc > 2) {
+        fprintf(stderr, "usage: example [FILE], a job file\n");
+        return 2;
+    }
     static const uint8_t blocks[] = {1, 4, 2, 3};
     static const int32_t readings[] = {11, -3, 4, 1, -8};
     uint8_t refused = bench_judge(5, 0, 2, 1, blocks, sizeof blocks, answer, BENCH_JUDGE_SLOTS);
@@ -31,12 +35,13 @@ int main(int argc, char **argv) {
             return told(refused);
         length = answer[BENCH_WRITTEN];
     } else {
-        FILE *file = argc == 2 ? fopen(argv[1], "rb") : NULL;
-        if (!file) {
-            fprintf(stderr, "usage: example [FILE], a job file\n");
+        FILE *file = fopen(argv[1], "rb");
+        length = file ? fread(bytes, 1, sizeof bytes, file) : 0;
+        /* A folder opens, but cannot be read: without this it would be listed as an empty job. */
+        if (!file || ferror(file)) {
+            perror(argv[1]);
             return 2;
         }
-        length = fread(bytes, 1, sizeof bytes, file);
         fclose(file);
     }
     /* A job that is refused is listed as that line; the call itself refuses only where `text` is too short, and gives no place. */
@@ -45,6 +50,9 @@ int main(int argc, char **argv) {
         fprintf(stderr, "refused %d\n", refused);
         return 1;
     }
-    fwrite(text, 1, answer[BENCH_LENGTH], stdout);
+    if (fwrite(text, 1, answer[BENCH_LENGTH], stdout) != answer[BENCH_LENGTH] || fflush(stdout)) {
+        perror("standard output");
+        return 1;
+    }
     return 0;
 }

@@ -26,28 +26,28 @@ use Rattle.restraint.proofs.Restrained.{restrained-yes}
 use Rattle.analysis.proofs.Accepting.{rooms-deviations, rooms-all}
 use Rattle.deviations.specs.Answers.{noDeviation}
 
--- object 0 with the sum 0 is a restraint for every design
-pub always-restrained : (h : Head) → Fits h → restraint h 1 (pos 0) ≡ accepted
-always-restrained h f = restrained-yes h 1 (pos 0) (record {
+-- objects 0 and 1 with the sum 0 are a restraint for every design, which has three objects or more
+pub always-restrained : (h : Head) → Fits h → restraint h 3 (pos 0) ≡ accepted
+always-restrained h f = restrained-yes h 3 (pos 0) (record {
   set-some = omega arith;
-  set-inside = omega (arith, pow-mono {i = 1} {j = objects h} (omega (arith, f .n-least)));
+  set-inside = omega (arith, pow-mono {i = 2} {j = objects h} (omega (arith, f .n-least)));
   sum-most = omega arith;
 })
 
 module _ (h : Head) (d : List ℕ) (y : List ℤ) where
   -- under it a job is refused as its readings are
-  pub readings-verdict : jobVerdict h d y 1 (pos 0) ≡ readingsVerdict h d y
+  pub readings-verdict : jobVerdict h d y 3 (pos 0) ≡ readingsVerdict h d y
   unfolding jobVerdict contents readingsVerdict
   readings-verdict = by (slices h d y) refl
     where
-      by : (v : Verdict) → slices h d y ≡ v → v ⨾ (clean h d ⨾ inBalance h d ⨾ restraint h 1 (pos 0) ⨾ inReach y) ≡ v ⨾ clean h d ⨾ inBalance h d ⨾ inReach y
+      by : (v : Verdict) → slices h d y ≡ v → v ⨾ (clean h d ⨾ inBalance h d ⨾ restraint h 3 (pos 0) ⨾ inReach y) ≡ v ⨾ clean h d ⨾ inBalance h d ⨾ inReach y
       by Accepted e =
           ap (λ (v : Verdict). clean h d ⨾ inBalance h d ⨾ v ⨾ inReach y) (always-restrained h (sliced h d y e .sizes))
           ∙ ap (λ (v : Verdict). v ⨾ inReach y) (accepted-last (clean h d ⨾ inBalance h d))
       by (Refused k at) e = refl
 
   -- the local rooms are long enough, so the lent one decides
-  pub deviations-verdict : (len : ℕ) → analyseVerdict h d y 1 (pos 0) 2600 50 len ≡ deviationsVerdict h d y len
+  pub deviations-verdict : (len : ℕ) → analyseVerdict h d y 3 (pos 0) 2600 50 len ≡ deviationsVerdict h d y len
   unfolding analyseVerdict deviationsVerdict
   deviations-verdict len = ap (λ (v : Verdict). v ⨾ rooms h 2600 50 len) readings-verdict ∙ by (readingsVerdict h d y) refl
     where
@@ -100,7 +100,7 @@ module _ (h : Head) (d : List ℕ) (y : List ℤ) where
   spread-under v = record { verdict = v; spreading = given v (spreadingOf h d y) noSpreading }
 
   -- a job worked out with rooms for the largest has the spread of the definition
-  pub spread-of-solved : (r : Solved) → r ≡ solvedUnder (deviationsVerdict h d y 1300) h d y 1 → _≡_ {A = JobSpread} (record { verdict = r .verdict; spreading = r .spreading }) (spreadAnswer h d y)
+  pub spread-of-solved : (r : Solved) → r ≡ solvedUnder (deviationsVerdict h d y 1300) h d y 3 → _≡_ {A = JobSpread} (record { verdict = r .verdict; spreading = r .spreading }) (spreadAnswer h d y)
   spread-of-solved r e = ap (λ (r : Solved). record { verdict = r .verdict; spreading = r .spreading }) e ∙ ap spread-under spread-verdict
 
   -- Q is that of the spread, on a refusal too

@@ -1,4 +1,4 @@
-// Deviations, Q and spread of a job. They do not depend on the restraint, so any accepted one serves: object 0 with the sum 0.
+// Deviations, Q and spread of a job. They do not depend on the restraint, so any accepted one serves: objects 0 and 1 with the sum 0.
 use analysis::analyse;
 use readings::blocks_refusal;
 use records::BlockDeviation;
@@ -72,7 +72,7 @@ pub fn spread(head: Head, blocks: &[u8], readings: &[i32]) -> JobSpread
 
 // The job worked out, its deviations into lent room and the rest into rooms of its own that are long enough.
 fn worked(head: Head, blocks: &[u8], readings: &[i32], deviations: &mut [i64]) -> Solved
-    ensures { λ r. ⌜ r ≡ solvedUnder (deviationsVerdict head (now (blocks .entry)) (now (readings .entry)) (length (now (deviations .entry)))) head (now (blocks .entry)) (now (readings .entry)) 1 ⌝ }
+    ensures { λ r. ⌜ r ≡ solvedUnder (deviationsVerdict head (now (blocks .entry)) (now (readings .entry)) (length (now (deviations .entry)))) head (now (blocks .entry)) (now (readings .entry)) 3 ⌝ }
     ensures { λ r. ⌜ now (deviations .exit) ≡ deviationsUnder (deviationsVerdict head (now (blocks .entry)) (now (readings .entry)) (length (now (deviations .entry)))) head (now (blocks .entry)) (now (readings .entry)) (now (deviations .entry)) ⌝ }
 {
     let mut words = [0u64; 2600];
@@ -81,7 +81,7 @@ fn worked(head: Head, blocks: &[u8], readings: &[i32], deviations: &mut [i64]) -
         head,
         blocks,
         readings,
-        1,
+        3,
         0,
         &mut words,
         &mut values,

@@ -52,7 +52,7 @@ module _ (c : tie.After-worked) where
   rooms : deviationsVerdict head bytes ys 1300 ≡ readingsVerdict head bytes ys
   rooms = spread-verdict head bytes ys
 
-  solution : c .worked .result ≡ solvedUnder (deviationsVerdict head bytes ys 1300) head bytes ys 1
+  solution : c .worked .result ≡ solvedUnder (deviationsVerdict head bytes ys 1300) head bytes ys 3
   solution = search needs
 
   solved-verdict : c .worked .result .verdict ≡ readingsVerdict head bytes ys

@@ -125,7 +125,6 @@ unfoldable pub readVerdict : List ℕ → Verdict
 readVerdict s = fields s ⨾ placed s (contents (headOf s) (blocksOf s) (readingsOf s) (setOf s) (sumOf s))
 
 -- the verdict of solving into rooms of these lengths
-
 unfoldable pub solveVerdict : List ℕ → ℕ → ℕ → ℕ → Verdict
 solveVerdict s words values deviations = readVerdict s ⨾ rooms (headOf s) words values deviations
 

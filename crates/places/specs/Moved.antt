@@ -7,7 +7,7 @@ use Rattle.records.specs.declared.Verdict.{Verdict}
 use Rattle.meaning.specs.Refusals.{place}
 use Rattle.meaning.specs.File.{placed}
 
--- the largest place of a direct call: the blocks and the readings of a job are no more than these together
+-- a place that no direct call's refusal of a job goes beyond: a job has at most 3,200 bytes of blocks and 1,300 readings
 abbrev pub placeLimit : ℕ
 placeLimit = 4500
 

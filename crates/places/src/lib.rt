@@ -15,7 +15,8 @@ pub fn moved(bytes: &[u8], verdict: Verdict) -> Verdict
     }
 }
 
-// The place: a byte of the blocks, the start of the third field, the first byte of a reading. Any other number has no place of its own in the file.
+// The place: a byte of the blocks, the start of the third field, the first byte of a reading. Any other number has no place of its own in the file. No job
+// has a place beyond 4500, up to which the numbers here cannot run over.
 fn file_place(bytes: &[u8], number: u8, i: usize) -> usize
     ensures { λ r. ⌜ r ≡ place (movedIn (now (bytes .entry)) (refused number i)) ⌝ }
 {

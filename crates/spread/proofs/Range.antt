@@ -22,7 +22,7 @@ use Rattle.spread.proofs.Hundreds.{root-lt}
 
 -- ---- the range
 
--- the three numbers are in the range of the request
+-- the three numbers are in their range
 pub record Ranged (q vbeta freedom : ℕ) : Type 0 where
   pub q-most : q < 2 ^ 57
   pub vbeta-some : 0 < vbeta

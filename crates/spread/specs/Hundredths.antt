@@ -1,4 +1,4 @@
--- The spread for every Q, v·beta and f: its hundredths are 0 outside the range of the request. Assumes nothing.
+-- The spread for every Q, v·beta and f: its hundredths are 0 outside a range that every accepted job keeps. Assumes nothing.
 use Prim.Native.Nat.{ℕ, _^_}
 use mathlib.Core.Bool.{Bool, cond, _&&_}
 use lib.Dec.{ltb, leb}
@@ -6,7 +6,7 @@ use Rattle.records.specs.declared.Spreading.{Spreading}
 use Rattle.meaning.specs.Analysis.{spreadHundredths}
 use Rattle.meaning.specs.Publishing.{spreadOf}
 
--- the range of the request: Q is below 2 ^ 57, v·beta is from 1 to 2600, and f is at most 1300
+-- that range: Q is below 2 ^ 57, v·beta is from 1 to 2600, and f is at most 1300
 unfoldable pub ranged : ℕ → ℕ → ℕ → Bool
 ranged q vbeta freedom = ltb q (2 ^ 57) && (ltb 0 vbeta && (leb vbeta 2600 && leb freedom 1300))
 

@@ -35,7 +35,7 @@ fn as_spread(hundredths: u64, freedom: u64) -> Spread
     }
 }
 
-// The whole hundredths: 0 with no freedom, and outside the range of the request.
+// The whole hundredths: 0 with no freedom, and outside a range that every accepted job keeps.
 fn hundredths_from(q: u64, vbeta: u64, freedom: u64) -> u64
     ensures { λ r. ⌜ r ≡ hundredthsFrom q vbeta freedom ⌝ }
 {
@@ -49,7 +49,7 @@ fn hundredths_from(q: u64, vbeta: u64, freedom: u64) -> u64
     }
 }
 
-// Whether the three numbers are in the range of the request.
+// Whether the three numbers are in a range that every accepted job keeps.
 fn is_ranged(q: u64, vbeta: u64, freedom: u64) -> bool
     ensures { λ r. ⌜ r ≡ ranged q vbeta freedom ⌝ }
 {

@@ -23,17 +23,17 @@ pub fn values(
     ensures { λ r. ⌜ r ≡ valuesVerdict head (now (blocks .entry)) (now (readings .entry)) set sum (length (now (values .entry))) ⌝ }
     ensures { λ r. ⌜ now (values .exit) ≡ valuesUnder (valuesVerdict head (now (blocks .entry)) (now (readings .entry)) set sum (length (now (values .entry)))) head (now (blocks .entry)) (now (readings .entry)) set sum (now (values .entry)) ⌝ }
 {
-    let mut developed = [0u64; 2600];
-    let mut residuals = [0i64; 1300];
+    let mut word_room = [0u64; 2600];
+    let mut deviation_room = [0i64; 1300];
     let solved = analyse(
         head,
         blocks,
         readings,
         set,
         sum,
-        &mut developed,
+        &mut word_room,
         values,
-        &mut residuals,
+        &mut deviation_room,
     );
     solved.verdict
 }

@@ -37,7 +37,7 @@ pub fn weighing_refusal(head: Head, words: &[u64], readings: &[i32], room: usize
 }
 
 // The first of the words of b blocks that names an object from v on, or 2b where none does. A turn of the loop looks at both words of a block, since it is run for
-// every job and no other walk is as long.
+// every job and goes over all of its words.
 fn stray_word(words: &[u64], b: usize, v: usize) -> usize
     requires { ⌜ (2 * b ≤ length (now words)) × (b ≤ 1300) × (v ≤ 50) ⌝ }
     ensures { λ r. ⌜ r ≡ strayWord (now (words .entry)) (2 * b) v ⌝ }

@@ -12,7 +12,7 @@ use mathlib.Core.Path.{_≡_, refl, sym, ap, ap₂, _∙_, subst}
 use mathlib.Core.List.{List}
 use Prim.Native.Nat.{ℕ, _+_, _-_, _*_, _^_, _≤_, _<_}
 use native.Mathlib.Nat.{le-trans}
-use native.Mathlib.Decide.{ℕ-discrete, decLt}
+use native.Mathlib.Decide.{ℕ-discrete}
 use native.Mathlib.Omega.{arith}
 use lib.IntN.{ℤ, pos, natAbs, _+ℤ_, _-ℤ_, _*ℤ_}
 use lib.ListN.{getD, length}
@@ -27,8 +27,8 @@ use Rattle.records.specs.declared.Head.{Head}
 use Rattle.meaning.specs.Design.{objects, blocks}
 use Rattle.meaning.specs.Analysis.{reading, member, members, restrained, numerator}
 use Rattle.words.specs.Bits.{bit, lowestOf, withoutLowest}
-use Rattle.words.proofs.Bits.{bit-most, bit-none, bit-past, once, once-same, once-other}
-use Rattle.words.proofs.Walk.{lowest-lt, lowest-one, rest-bit, rest-less}
+use Rattle.words.proofs.Bits.{bit-most, bit-none, bit-past, one-below, once, once-same, once-other}
+use Rattle.words.proofs.Walk.{Left, left-all, left-rest, lowest-lt, rest-bit}
 use Rattle.weighing.specs.Developed.{signIn, totalIn}
 use Rattle.weighing.proofs.Developing.{filled-at, filled-most}
 use Rattle.weighing.proofs.Refusing.{Weighable}
@@ -90,53 +90,40 @@ module _ (totals : List ℤ) (w : ℕ) (r : Held totals w) where
 
 -- the walk: rest is what is left of the word w, and so far the total of every object that is not
 pub record SetWalk (w : ℕ) (totals : List ℤ) (rest : ℕ) (so-far : ℤ) : Type 0 where
-  pub less : rest ≤ w
-  pub part : (i : ℕ) → bit rest i ≡ 1 → bit w i ≡ 1
+  pub left : Left w rest
   pub sums : so-far +ℤ overSet rest (totalAt totals) ≡ overSet w (totalAt totals)
 
 module _ (w : ℕ) (totals : List ℤ) where
   -- nothing was added yet
   pub set-starts : SetWalk w totals w (pos 0)
-  set-starts = record { less = omega arith; part = λ i e. e; sums = ring₁ (λ t. # 0 ⊕ t ≐ t) (overSet w (totalAt totals)) refl }
+  set-starts = record { left = left-all w; sums = ring₁ (λ t. # 0 ⊕ t ≐ t) (overSet w (totalAt totals)) refl }
 
   -- all was added
   pub set-ends : (so-far : ℤ) → SetWalk w totals 0 so-far → so-far ≡ overSet w (totalAt totals)
   set-ends so-far k = sym (ap (λ (z : ℤ). so-far +ℤ z) (set-nothing (totalAt totals)) ∙ ring₁ (λ t. t ⊕ # 0 ≐ t) so-far refl) ∙ k .sums
 
   module _ (rest : ℕ) (so-far : ℤ) (h : w < 2 ^ 64) (p : 0 < rest) (k : SetWalk w totals rest so-far) where
-    -- the lowest object is one of the word
-    pub lowest-part : bit w (lowestOf rest) ≡ 1
-    lowest-part = k .part (lowestOf rest) (lowest-one rest p (omega (arith, k .less)))
-
-    -- it is taken
+    -- the lowest object is taken
     pub set-goes : (z : ℤ) → z ≡ so-far +ℤ totalAt totals (lowestOf rest) → SetWalk w totals (withoutLowest rest) z
     set-goes z e = record {
-      less = omega (arith, rest-less rest p, k .less);
-      part = λ i f. k .part i (omega (arith, rest-bit rest p (omega (arith, k .less)) i, bit-most rest i));
+      left = left-rest w rest h p (k .left);
       sums =
           ap (λ (x : ℤ). x +ℤ overSet (withoutLowest rest) (totalAt totals)) e
           ∙ ring₃ (λ s t r. s ⊕ t ⊕ r ≐ s ⊕ (t ⊕ r)) so-far (totalAt totals (lowestOf rest)) (overSet (withoutLowest rest) (totalAt totals)) refl
-          ∙ ap (λ (x : ℤ). so-far +ℤ x) (sym (set-rest (totalAt totals) rest p (omega (arith, k .less)))) ∙ k .sums;
+          ∙ ap (λ (x : ℤ). so-far +ℤ x) (sym (set-rest (totalAt totals) rest p (omega (arith, k .left .less)))) ∙ k .sums;
     }
 
   -- what was added is the difference of two sums
   pub so-far-small : (rest : ℕ) (so-far : ℤ) → Held totals w → SetWalk w totals rest so-far → natAbs so-far ≤ 33280000000
   so-far-small rest so-far r k =
       let taken : so-far ≡ overSet w (totalAt totals) -ℤ overSet rest (totalAt totals) = comb₁ (pos 1) (k .sums) (ring₃ (λ s a b. s ⊝ (b ⊝ a) ≐ # 1 ⊗ (s ⊕ a ⊝ b)) so-far (overSet rest (totalAt totals)) (overSet w (totalAt totals)) refl) in
-      subst (λ (z : ℤ). natAbs z ≤ 33280000000) (sym taken) (omega (arith, abs-sub (overSet w (totalAt totals)) (overSet rest (totalAt totals)), set-small totals w r, part-small totals w r rest (k .part)))
+      subst (λ (z : ℤ). natAbs z ≤ 33280000000) (sym taken) (omega (arith, abs-sub (overSet w (totalAt totals)) (overSet rest (totalAt totals)), set-small totals w r, part-small totals w r rest (k .left .part)))
 
 -- ---- the words of a block
 
 -- every object of a word that has them below v has its total
 pub held-by : (totals : List ℤ) (v w : ℕ) → Totalled totals v → w < 2 ^ v → Held totals w
-held-by totals v w t h = record { held = λ i e. let l = below i e in (omega (arith, t .few), t .most i l) }
-  where
-    below : (i : ℕ) → bit w i ≡ 1 → i < v
-    below i e = by (decLt i v)
-      where
-        by : Dec (i < v) → i < v
-        by (yes l) = l
-        by (no n) = absurd (omega (arith, e, bit-past v w i h (omega (arith, n))))
+held-by totals v w t h = record { held = λ i e. let l = one-below v w i h e in (omega (arith, t .few), t .most i l) }
 
 -- two sums over such a word agree where their totals do
 pub set-agrees : (f g : ℕ → ℤ) (v w : ℕ) → v ≤ 64 → w < 2 ^ v → ((i : ℕ) → i < v → f i ≡ g i) → restrained 64 w f ≡ restrained 64 w g

@@ -28,10 +28,11 @@ use Rattle.laws.proofs.Occurrences.{occ-absent}
 use Rattle.laws.proofs.Clean.{block-once, left-objects, right-objects}
 use Rattle.laws.proofs.Counting.{company-symmetric, opposition-symmetric}
 use Rattle.words.proofs.Bits.{product-most}
+use Rattle.words.proofs.Changing.{each-same}
 use Rattle.words.proofs.Sides.{word-below, company-word, opposition-word}
 use Rattle.algebra.specs.Tables.{entry}
 use Rattle.pairs.specs.Meetings.{tableMore, meetings, tally}
-use Rattle.pairs.proofs.Adding.{each-same, more-twice, more-cong, entry-most, zero-entry, fresh-table}
+use Rattle.pairs.proofs.Adding.{more-twice, more-cong, entry-most, zero-entry, fresh-table}
 
 -- two objects meet at most twice in a block, whatever its words
 pub meetings-most : (opposite : Bool) (l r i j : ℕ) → meetings opposite l r i j ≤ 2

@@ -1,8 +1,8 @@
 -- The meetings of two objects, counted in developed words, and tables that they are added to. Block k has the left word 2k and the right word 2k + 1.
 -- Assumes nothing.
-use Prim.Native.Nat.{ℕ, suc, _+_, _*_}
+use Prim.Native.Nat.{ℕ, _+_, _*_}
 use mathlib.Core.Bool.{Bool, true, false}
-use mathlib.Core.List.{List, [], _∷_}
+use mathlib.Core.List.{List}
 use lib.ListN.{getD}
 use Rattle.algebra.specs.Ranges.{sumℕ}
 use Rattle.records.specs.declared.Head.{Head}
@@ -10,11 +10,7 @@ use Rattle.records.specs.declared.Verdict.{Verdict}
 use Rattle.meaning.specs.Design.{objects, company, opposition}
 use Rattle.meaning.specs.Calls.{given, tableOf}
 use Rattle.words.specs.Bits.{companyOf, oppositionOf}
-
--- a list with f k x in the place of each entry x, k its place
-unfoldable pub eachAt : {A : Type 0} → (ℕ → A → A) → List A → List A
-eachAt f [] = []
-eachAt f (x ∷ l) = f 0 x ∷ eachAt (λ (k : ℕ). f (suc k)) l
+use Rattle.words.specs.Changing.{eachAt}
 
 -- a row with f j more in each column j
 abbrev pub rowMore : (ℕ → ℕ) → List ℕ → List ℕ

@@ -5,9 +5,9 @@ use mathlib.Core.List.{List}
 use lib.ListN.{getD, length}
 use lib.IntN.{ℤ, pos, _+ℤ_, _-ℤ_, _*ℤ_, natAbs}
 use Rattle.algebra.specs.Ranges.{sum, sumℕ}
-use Rattle.algebra.specs.Buffers.{over}
 use Rattle.meaning.specs.Analysis.{reading}
 use Rattle.words.specs.Bits.{bit}
+use Rattle.words.specs.Changing.{eachAt}
 
 -- 1 where object i stands in the left word of block k, -1 where it stands in the right one, 0 elsewhere
 abbrev pub signIn : List ℕ → ℕ → ℕ → ℤ
@@ -36,9 +36,13 @@ pub record Within (words : List ℕ) (b v : ℕ) : Type 0 where
 pub record Room (totals : List ℤ) (w B : ℕ) : Type 0 where
   pub held : (i : ℕ) → bit w i ≡ 1 → (i < length totals) × (natAbs (getD totals i (pos 0)) ≤ B)
 
+-- the total of object i after y was added where the object is in the word w
+unfoldable pub more : ℕ → ℤ → ℕ → ℤ → ℤ
+more w y i total = total +ℤ pos (bit w i) *ℤ y
+
 -- a room of totals after y was added for every object of the word w
-unfoldable pub added : ℕ → ℤ → List ℤ → List ℤ
-added w y totals = over (length totals) (λ i. getD totals i (pos 0) +ℤ pos (bit w i) *ℤ y) totals
+abbrev pub added : ℕ → ℤ → List ℤ → List ℤ
+added w y = eachAt (more w y)
 
 -- and after the reading of block k was added for its left word and taken away for its right one
 abbrev pub blockAdded : List ℕ → List ℤ → ℕ → List ℤ → List ℤ

@@ -50,6 +50,12 @@ bit-past zero w i h l = ap (λ (x : ℕ). bit x i) (lt-one h) ∙ bit-none i
 bit-past (suc n) w zero h l = absurd (omega arith)
 bit-past (suc n) w (suc i) h l = bit-suc w i ∙ bit-past n (w / 2) i (half-lt n w h) (omega arith)
 
+-- so an object of it is below n
+pub one-below : (n w i : ℕ) → w < 2 ^ n → bit w i ≡ 1 → i < n
+one-below zero w i h e = absurd (omega (arith, e, bit-past 0 w i h (omega arith)))
+one-below (suc n) w zero h e = omega arith
+one-below (suc n) w (suc i) h e = omega (arith, one-below n (w / 2) i (half-lt n w h) (sym (bit-suc w i) ∙ e))
+
 -- a number with no bit is 0
 none-set : (n w : ℕ) → w ≤ n → ((i : ℕ) → bit w i ≡ 0) → w ≡ 0
 none-set zero w l h = omega arith

@@ -2,4 +2,5 @@
 pub mod Bits
 pub mod Sides
 pub mod Walk
+pub mod Changing
 pub mod Determined

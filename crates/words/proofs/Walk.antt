@@ -6,6 +6,7 @@
 --     rest-bit                a bit of the word is that of the rest, but for the lowest
 --     rest-here, rest-other   the same at the lowest place, and at another
 --     rest-less               the rest is less, so that a walk ends
+--     Left, left-lowest       within a walk: what is left of a word is part of it, and its lowest object is one of the word
 -- Assumes nothing.
 use mathlib.Core.Path.{_≡_, refl, sym, ap, _∙_}
 use Prim.Native.Nat.{ℕ, zero, suc, _+_, _-_, _/_, _%_, _^_, _≤_, _<_}
@@ -22,7 +23,7 @@ use lib.Count.{trailingZeros, trailing-le, trailing-of-zero, under}
 use Rattle.algebra.specs.Ranges.{firstFrom}
 use Rattle.algebra.proofs.Tests.{first-is, first-from-none}
 use Rattle.words.specs.Bits.{bit, lowestOf, withoutLowest}
-use Rattle.words.proofs.Bits.{half-lt, bit-zero, bit-suc, bit-past, once, once-same, once-other, once-suc}
+use Rattle.words.proofs.Bits.{half-lt, bit-zero, bit-suc, bit-most, bit-past, once, once-same, once-other, once-suc}
 
 -- ---- the zeros below the lowest 1
 
@@ -159,3 +160,26 @@ rest-less w p = omega (arith, pow-pos (lowestOf w))
 pub rest-none : withoutLowest 0 ≡ 0
 unfolding withoutLowest
 rest-none = omega arith
+
+-- ---- within a walk
+
+-- rest is what is left of the word w
+pub record Left (w rest : ℕ) : Type 0 where
+  pub less : rest ≤ w
+  pub part : (i : ℕ) → bit rest i ≡ 1 → bit w i ≡ 1
+
+-- nothing was taken yet
+pub left-all : (w : ℕ) → Left w w
+left-all w = record { less = omega arith; part = λ i e. e }
+
+module _ (w rest : ℕ) (h : w < 2 ^ 64) (p : 0 < rest) (k : Left w rest) where
+  -- the lowest object is one of the word
+  pub left-lowest : bit w (lowestOf rest) ≡ 1
+  left-lowest = k .part (lowestOf rest) (lowest-one rest p (omega (arith, k .less)))
+
+  -- it is taken
+  pub left-rest : Left w (withoutLowest rest)
+  left-rest = record {
+    less = omega (arith, rest-less rest p, k .less);
+    part = λ i e. k .part i (omega (arith, rest-bit rest p (omega (arith, k .less)) i, bit-most rest i));
+  }

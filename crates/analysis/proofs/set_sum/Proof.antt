@@ -9,9 +9,9 @@ use mir.Syntax.{w64}
 use mir.Val.{toZ}
 use Rattle.algebra.proofs.Numbers.{Num, local, number, plus, plus-fits}
 use Rattle.words.specs.Bits.{lowestOf}
-use Rattle.words.proofs.Walk.{lowest-lt, rest-less}
+use Rattle.words.proofs.Walk.{left-lowest, lowest-lt, rest-less}
 use Rattle.analysis.specs.Worked.{totalAt}
-use Rattle.analysis.proofs.Working.{SetWalk, set-starts, set-goes, set-ends, lowest-part, so-far-small}
+use Rattle.analysis.proofs.Working.{SetWalk, set-starts, set-goes, set-ends, so-far-small}
 use Rattle.analysis.proofs.set_sum.Statement.{statement}
 use Rattle.analysis.proofs.set_sum.Tie as tie
 
@@ -33,11 +33,11 @@ module _ (c : tie.After-lowest Inv-loop μ-loop) where
   some = omega (arith, c .before .loop-test .taken)
 
   near : c .lowest .result < 64
-  near = omega (arith, c .lowest .ensures, lowest-lt 64 rest some (omega (arith, start .fits .set .fits, c .before .before .loop .inv .less)) (omega arith))
+  near = omega (arith, c .lowest .ensures, lowest-lt 64 rest some (omega (arith, start .fits .set .fits, c .before .before .loop .inv .left .less)) (omega arith))
 
   held : (c .lowest .result < 50) × (natAbs (totalAt (now (start .args .totals)) (c .lowest .result)) ≤ 260000000)
   held = subst (λ (i : ℕ). (i < 50) × (natAbs (totalAt (now (start .args .totals)) i) ≤ 260000000)) (sym (c .lowest .ensures))
-      (start .pre .held (lowestOf rest) (lowest-part _ _ rest _ (start .fits .set .fits) some (c .before .before .loop .inv)))
+      (start .pre .held (lowestOf rest) (left-lowest _ rest (start .fits .set .fits) some (c .before .before .loop .inv .left)))
 
 -- what a turn computes
 module _ (c : tie.After-total Inv-loop μ-loop) where

@@ -6,7 +6,8 @@ use lib.ListN.{getD}
 use Rattle.words.specs.Bits.{oppositionOf, lowestOf}
 use Rattle.words.proofs.Bits.{product-most}
 use Rattle.words.proofs.Walk.{lowest-lt, some-left, none-left, rest-less}
-use Rattle.pairs.proofs.Adding.{walked, walk-step, walk-end, row-most}
+use Rattle.words.proofs.Changing.{walked, walk-step, walk-end}
+use Rattle.pairs.proofs.Adding.{row-most}
 use native.Mathlib.Omega.{arith}
 use borrow.Author.Needs.{needs}
 use Rattle.pairs.proofs.add_opposition.Statement.{statement}

@@ -6,8 +6,9 @@ use denote.Ref.{now}
 use Rattle.words.specs.Bits.{companyOf, oppositionOf, lowestOf}
 use Rattle.words.proofs.Bits.{product-most}
 use Rattle.words.proofs.Walk.{lowest-lt, some-left, none-left, rest-less}
+use Rattle.words.proofs.Changing.{each-same, walked, walk-step, walk-end}
 use Rattle.pairs.specs.Meetings.{rowMore}
-use Rattle.pairs.proofs.Adding.{each-same, walked, walk-step, walk-end, rows-most}
+use Rattle.pairs.proofs.Adding.{rows-most}
 use native.Mathlib.Omega.{arith}
 use borrow.Author.Needs.{needs}
 use Rattle.pairs.proofs.add_side.Statement.{statement}

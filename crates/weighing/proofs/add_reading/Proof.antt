@@ -50,7 +50,7 @@ add-to-requires c κs = let t = c .before in (search (start t .pre .1 .0), rw (y
 
 add-to-requires-2 : tie.Need-add-to-requires-2
 add-to-requires-2 c κs = let t = c .before in
-    (subst (λ (l : List ℤ). Room l (getD (now (s t .args .words)) (2 * s t .args .k + 1) 0) 260200000) (sym (left-added t)) (added-room _ _ _ _ 260000000 (s t .pre .0 .2) (s t .pre .1 .1)), rw (less (read t) .reads) (less (read t) .small))
+    (subst (λ (l : List ℤ). Room l (getD (now (s t .args .words)) (2 * s t .args .k + 1) 0) 260200000) (sym (left-added t)) (added-room _ _ (s t .pre .0 .2) _ _ 260000000 (s t .pre .1 .1)), rw (less (read t) .reads) (less (read t) .small))
 
 returns : tie.Need-returns
 returns c =

@@ -1,25 +1,26 @@
--- `add_to`: what stands in the room, with y for every object that is left, is the same throughout. Assumes nothing.
-use mathlib.Core.Path.{refl, sym, ap, _∙_, subst, subst₂}
+-- `add_to`: what is still to be added, added now, is what was to be added at first. Assumes nothing.
+use mathlib.Core.Path.{_≡_, refl, ap, _∙_}
 use mathlib.Core.List.{List}
 use Prim.Native.Nat.{ℕ, _≤_, _<_}
 use native.Mathlib.Omega.{arith}
 use denote.Ref.{now}
 use lib.Dec.{lit<}
-use lib.IntN.{ℤ, pos, natAbs, _+ℤ_}
-use lib.ListN.{getD, length, set}
+use lib.IntN.{ℤ, pos, natAbs}
+use lib.ListN.{getD, length}
 use mir.Syntax.{w64}
 use mir.Val.{toZ, ofZ}
 use mir.Facts.{toZ-ofZ}
 use Rattle.algebra.proofs.Numbers.{Num, local, number, plus, plus-fits}
-use Rattle.words.specs.Bits.{lowestOf}
-use Rattle.words.proofs.Walk.{lowest-lt, rest-less}
-use Rattle.weighing.specs.Developed.{added}
-use Rattle.weighing.proofs.Adding.{Walk, walk-starts, walk-goes, walk-ends, lowest-part, lowest-waits}
+use Rattle.words.specs.Bits.{bit}
+use Rattle.words.proofs.Walk.{Left, left-all, left-lowest, left-rest, lowest-lt, rest-less}
+use Rattle.words.proofs.Changing.{walked, walk-step, walk-end, walk-long}
+use Rattle.weighing.specs.Developed.{more, added}
+use Rattle.weighing.proofs.Adding.{more-in, more-not, walk-most}
 use Rattle.weighing.proofs.add_to.Statement.{statement}
 use Rattle.weighing.proofs.add_to.Tie as tie
 
 abbrev Inv-loop : tie.InvT-loop
-Inv-loop word y totals₀ rest₀ totals rest = Walk word (toZ w64 y) totals₀ rest totals
+Inv-loop word y totals₀ rest₀ totals rest = Left word rest × (walked rest (more word (toZ w64 y)) totals ≡ walked word (more word (toZ w64 y)) totals₀)
 
 abbrev μ-loop : tie.MeasureT-loop
 μ-loop word y totals₀ rest₀ totals rest = rest
@@ -35,45 +36,49 @@ module _ (c : tie.After-lowest Inv-loop μ-loop) where
   abbrev room : List ℤ
   room = c .before .before .loop .totals
 
+  abbrev y : Num
+  y = local (ofZ w64 (start .args .y)) 200000 refl (rw (toZ-ofZ (start .fits .y)) (start .pre .1))
+
   some : 0 < rest
   some = omega (arith, c .before .loop-test .taken)
 
-  held : (lowestOf rest < length (now (start .args .totals))) × (natAbs (getD (now (start .args .totals)) (lowestOf rest) (pos 0)) ≤ 260200000)
-  held = start .pre .0 .held (lowestOf rest) (lowest-part _ _ _ rest room (start .fits .word .fits) some (c .before .before .loop .inv))
+  one : bit (start .args .word) (c .lowest .result) ≡ 1
+  one = ap (bit (start .args .word)) (c .lowest .ensures) ∙ left-lowest _ rest (start .fits .word .fits) some (c .before .before .loop .inv .0)
+
+  held : (c .lowest .result < length (now (start .args .totals))) × (natAbs (getD (now (start .args .totals)) (c .lowest .result) (pos 0)) ≤ 260200000)
+  held = start .pre .0 .held (c .lowest .result) one
 
   near : c .lowest .result < 64
-  near = omega (arith, c .lowest .ensures, lowest-lt 64 rest some (omega (arith, start .fits .word .fits, c .before .before .loop .inv .less)) (omega arith))
+  near = omega (arith, c .lowest .ensures, lowest-lt 64 rest some (omega (arith, start .fits .word .fits, c .before .before .loop .inv .0 .less)) (omega arith))
 
   inside : c .lowest .result < length room
-  inside = omega (arith, c .lowest .ensures, held .0, c .before .before .loop .inv .long)
+  inside = omega (arith, held .0, walk-long _ rest _ room (now (start .args .totals)) (c .before .before .loop .inv .1))
 
-  small : natAbs (getD room (c .lowest .result) (pos 0)) ≤ 260200000
-  small = subst (λ (z : ℤ). natAbs z ≤ 260200000)
-      (sym (ap (λ (j : ℕ). getD room j (pos 0)) (c .lowest .ensures) ∙ lowest-waits _ _ (now (start .args .totals)) rest room (start .fits .word .fits) some (c .before .before .loop .inv))) (held .1)
+  small : natAbs (getD room (c .lowest .result) (pos 0)) ≤ 260600000
+  small = omega (arith, held .1, walk-most _ _ (y .small) rest room (now (start .args .totals)) (c .lowest .result) (c .before .before .loop .inv .1))
 
 -- what is stored
 module _ (c : tie.After-total Inv-loop μ-loop) where
   abbrev total : Num
-  total = number (getD (room (c .before)) (c .before .lowest .result) (pos 0)) 260200000 (small (c .before)) (lit< tt)
-
-  abbrev y : Num
-  y = local (ofZ w64 (start (c .before) .args .y)) 200000 refl (rw (toZ-ofZ (start (c .before) .fits .y)) (start (c .before) .pre .1))
+  total = number (getD (room (c .before)) (c .before .lowest .result) (pos 0)) 260600000 (small (c .before)) (lit< tt)
 
   abbrev sum : Num
-  sum = plus total y (lit< tt)
+  sum = plus total (y (c .before)) (lit< tt)
 
 loop-again : tie.Need-loop-again Inv-loop μ-loop
 loop-again c =
-    let t = c .before in
-    let o = t .before in
-    subst₂ (λ (r j : ℕ). Walk (start o .args .word) (toZ w64 (ofZ w64 (start o .args .y))) (now (start o .args .totals)) r (set (room o) j (toZ w64 (sum t .bits)))) (sym (c .without-lowest .ensures)) (sym (o .lowest .ensures))
-    (walk-goes _ _ _ (rest o) (room o) (start o .fits .word .fits) (some o) (o .before .before .loop .inv) (toZ w64 (sum t .bits))
-    (sum t .reads ∙ ap (λ (j : ℕ). getD (room o) j (pos 0) +ℤ toZ w64 (ofZ w64 (start o .args .y))) (o .lowest .ensures)) (held o .0))
+    let o = c .before .before in
+    let (left, same) = o .before .before .loop .inv in
+    let less = c .without-lowest .ensures in (
+      rw less (left-rest _ (rest o) (start o .fits .word .fits) (some o) left),
+      walk-step (more (start o .args .word) _) (rest o) (room o) (pos 0) (some o) (omega (arith, start o .fits .word .fits, left .less)) (o .lowest .ensures) less
+          (sum (c .before) .reads ∙ more-in _ _ _ _ (one o)) same,
+    )
 
 returns : tie.Need-returns Inv-loop μ-loop
 returns c =
     let s = c .before .before in
-    walk-ends _ _ _ _ (subst (λ (r : ℕ). Walk (s .args .word) (toZ w64 (ofZ w64 (s .args .y))) (now (s .args .totals)) r (c .before .loop .totals)) (c .loop-test .left) (c .before .loop .inv))
+    walk-end (more (s .args .word) _) (s .args .word) (c .before .loop .totals) (now (s .args .totals)) (more-not _ _) (rw (c .loop-test .left) at (c .before .loop .inv .1))
     ∙ ap (λ (z : ℤ). added (s .args .word) z (now (s .args .totals))) (toZ-ofZ (s .fits .y))
 
 pub add-to-spec : {M : Type 1} → statement M
@@ -82,15 +87,15 @@ add-to-spec =
     (tie.spec
     Inv-loop
     μ-loop
-    (λ c. walk-starts _ _ _)
+    (λ c. (left-all _, refl))
     (λ c κs. tt)
     (λ c. omega (arith, near c))
     (λ c. omega (arith, inside c))
-    (λ c. plus-fits (total c) (y c) (lit< tt))
+    (λ c. plus-fits (total c) (y (c .before)) (lit< tt))
     (λ c. omega (arith, near (c .before)))
     (λ c. omega (arith, inside (c .before)))
     (λ c κs. tt)
     (λ c. omega (arith, c .without-lowest .ensures, rest-less (rest (c .before .before)) (some (c .before .before))))
     loop-again
-    (λ c. c .before .loop .inv .long)
+    (λ c. walk-long _ _ _ _ _ (c .before .loop .inv .1))
     returns)

@@ -4,7 +4,7 @@ use mathlib.Core.Bool.{Bool, true, false, cond, not, _&&_}
 use mathlib.Core.List.{List, [], _∷_}
 use lib.ListN.{getD, take, drop, length}
 use lib.Dec.{eqb}
-use lib.IntN.{ℤ, pos, natAbs}
+use lib.IntN.{ℤ, pos}
 use lib.Ieee.{Float, nan, inf, fin}
 use Rattle.algebra.specs.Ranges.{sum, all, eqZ}
 use Rattle.records.specs.declared.Head.{Head}

@@ -1,5 +1,5 @@
 -- What each direct call answers, on every input, and what it leaves in each lent buffer. Assumes nothing.
-use Prim.Native.Nat.{ℕ, zero, suc, _+_, _*_, _/_, _%_, _^_}
+use Prim.Native.Nat.{ℕ, _+_, _*_, _/_, _%_, _^_}
 use mathlib.Core.Bool.{cond}
 use mathlib.Core.List.{List, [], _∷_, _++_, replicate}
 use lib.ListN.{take, drop, length}

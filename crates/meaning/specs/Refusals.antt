@@ -1,5 +1,5 @@
 -- The tests that a call makes, each with the number and place of its refusal. A chain of them, in the request's order, is a call's verdict. Assumes nothing.
-use Prim.Native.Nat.{ℕ, _+_, _-_, _*_, _%_, _^_}
+use Prim.Native.Nat.{ℕ, _-_, _*_, _%_, _^_}
 use mathlib.Core.Bool.{Bool, true, false, cond, not, _&&_, _||_}
 use mathlib.Core.List.{List}
 use lib.ListN.{getD, take, drop, length}
@@ -9,7 +9,7 @@ use Rattle.algebra.specs.Ranges.{firstFrom}
 use Rattle.records.specs.declared.Head.{Head}
 use Rattle.records.specs.declared.Verdict.{Verdict}
 use Rattle.records.specs.declared.Verdict.the-variants.{Accepted, Refused}
-use Rattle.meaning.specs.Design.{objects, withFixed, blocks, sized, listLength, occ, balanced}
+use Rattle.meaning.specs.Design.{objects, withFixed, sized, occ, balanced}
 use Rattle.meaning.specs.Analysis.{reading}
 
 -- the two verdicts by name

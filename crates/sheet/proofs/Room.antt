@@ -8,7 +8,6 @@ use lib.ListN.{length}
 use Rattle.algebra.specs.Buffers.{Wrote}
 use Rattle.algebra.proofs.Writing.{measured, longer, in-front}
 use Rattle.records.specs.declared.Listed.{Listed}
-use Rattle.records.specs.declared.Verdict.{Verdict}
 use Rattle.records.specs.declared.Verdict.the-variants.{Accepted, Refused}
 use Rattle.sheet.specs.Sheet.{renderedAnswer, renderedAfter}
 

@@ -1,10 +1,8 @@
 -- The slots of a judgement and of a job worked out, in their order. Assumes nothing.
 use Prim.Native.Nat.{ℕ}
 use mathlib.Core.List.{List, [], _∷_}
-use Rattle.records.specs.declared.Parameters.{Parameters}
 use Rattle.records.specs.declared.Judged.{Judged}
 use Rattle.records.specs.declared.Solved.{Solved}
-use Rattle.records.specs.declared.Spreading.{Spreading}
 use Rattle.meaning.specs.Refusals.{place}
 use Rattle.telling.specs.Told.{hasSpread}
 

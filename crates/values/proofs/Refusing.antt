@@ -12,7 +12,7 @@ use Rattle.records.specs.declared.Verdict.{Verdict}
 use Rattle.records.specs.declared.Verdict.the-variants.{Accepted, Refused}
 use Rattle.records.specs.declared.Value.{Value}
 use Rattle.records.specs.declared.ObjectValue.{ObjectValue}
-use Rattle.meaning.specs.Design.{objects, blocks}
+use Rattle.meaning.specs.Design.{objects}
 use Rattle.meaning.specs.Analysis.{numeratorOf, denominatorOf}
 use Rattle.meaning.specs.Publishing.{published, valueOf, noValue}
 use Rattle.meaning.specs.Refusals.{_⨾_, accepted, refused, number, place, clean, inBalance, restraint, inReach, room}

@@ -4,7 +4,6 @@ use mathlib.Core.Path.{_≡_, sym, _∙_}
 use borrow.Author.Tests.{not-true, not-false}
 use borrow.Author.Needs.{needs}
 use denote.Ref.{now}
-use Rattle.meaning.specs.Design.{sized}
 use Rattle.meaning.specs.Refusals.{accepted}
 use Rattle.meaning.specs.File.{fieldVerdict}
 use Rattle.verdicts.proofs.Told.{refusing, accepting}

@@ -17,11 +17,6 @@ pub mag-abs : (z : ℤ) → mag z ≤ natAbs z
 mag-abs (pos n) = omega arith
 mag-abs (negsuc n) = omega arith
 
--- and at most one less
-pub abs-mag : (z : ℤ) → natAbs z ≤ mag z + 1
-abs-mag (pos n) = omega arith
-abs-mag (negsuc n) = omega arith
-
 -- a negation is as large
 pub abs-neg : (z : ℤ) → natAbs (negℤ z) ≡ natAbs z
 abs-neg (pos zero) = refl

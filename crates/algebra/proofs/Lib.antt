@@ -3,7 +3,6 @@ pub mod Tests
 pub mod Ring
 pub mod Solver
 pub mod Order
-pub mod Linear
 pub mod Sums
 pub mod Bounds
 pub mod Numbers

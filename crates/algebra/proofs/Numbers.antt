@@ -7,7 +7,7 @@ use native.Mathlib.Nat.{le-trans, le-of-eq, lt-of-le-of-lt, add-le-add, mul-le-m
 use native.Mathlib.Omega.{arith}
 use lib.Dec.{T}
 use lib.IntN.{ℤ, pos, natAbs, _+ℤ_, _-ℤ_, _*ℤ_}
-use lib.Signed.{nonNeg, _≤ℤ_, yes-nonNeg, pos-natAbs}
+use lib.Signed.{nonNeg, _≤ℤ_, yes-nonNeg}
 use mir.Syntax.{w32, w64}
 use mir.Val.{Fits, SFits, toZ, ofZ}
 use mir.Facts.{toZ-ofZ, toZ-pos, sfits-widen}
@@ -53,10 +53,6 @@ widened-fits z f = subst (SFits w64) (sym (toZ-ofZ f)) (sfits-widen tt f)
 -- an i32, cast
 abbrev pub widened : (z : ℤ) (B : ℕ) → SFits w32 z → natAbs z ≤ B → Num
 widened z B f h = record { bits = ofZ w64 (toZ w32 (ofZ w32 z)); num = z; size = B; reads = toZ-ofZ (widened-fits z f) ∙ toZ-ofZ f; small = h }
-
--- the same local, with a better bound
-abbrev pub bounded : (x : Num) (B : ℕ) → natAbs (x .num) ≤ B → Num
-bounded x B h = record { bits = x .bits; num = x .num; size = B; reads = x .reads; small = h }
 
 -- ---- the operations: `-fits` answers the need, and the other is the result
 
@@ -124,7 +120,3 @@ module _ (x : Num) (n : pos 0 ≤ℤ x .num) where
   -- the need of the cast
   pub cast-fits : x .size < 2 ^ 63 → T (nonNeg (toZ w64 (x .bits))) × Fits w64 (natAbs (toZ w64 (x .bits)))
   cast-fits l = (not-negative, rw (x .reads) (record { fits = omega (arith, x .small) }))
-
-  -- the cast is the number
-  pub cast-is : pos (natAbs (toZ w64 (x .bits))) ≡ x .num
-  cast-is = pos-natAbs (toZ w64 (x .bits)) not-negative ∙ x .reads

@@ -7,7 +7,7 @@ use native.Mathlib.Omega.{arith}
 use lib.Dec.{T, ltb, leb→le, le→leb, ltb→lt, lt→ltb}
 use lib.IntN.{ℤ, pos, negsuc, negℤ, natAbs, _+ℤ_, _-ℤ_, _*ℤ_, +ℤ-idl, +ℤ-idr, +ℤ-invr, negℤ-negℤ}
 use lib.Signed.{_≤ℤ_, _<ℤ_, leZ, ltZ, ltZ-no, <ℤ-irrefl, clashℤ}
-use Rattle.algebra.proofs.Solver.{_⊕_, _⊗_, _⊝_, ⊖_, #, _≐_, ring₂, ring₃, ring₄, ring₅}
+use Rattle.algebra.proofs.Solver.{_⊕_, _⊗_, _⊝_, ⊖_, _≐_, ring₂, ring₃, ring₄, ring₅}
 
 -- ---- between the order of ℤ and the order of ℕ, for omega: `omega (arith, pos-≤, pos-≤⁻)`
 -- an order of naturals is one of whole numbers
@@ -17,14 +17,6 @@ pos-≤ m n h = record { le = le→leb m n h }
 -- and back
 pub pos-≤⁻ : (m n : ℕ) → pos m ≤ℤ pos n → m ≤ n
 pos-≤⁻ m n h = leb→le m n (h .le)
-
--- a strict order of naturals is one of whole numbers
-pub pos-< : (m n : ℕ) → m < n → pos m <ℤ pos n
-pos-< m n h = record { lt = lt→ltb m n h }
-
--- and back
-pub pos-<⁻ : (m n : ℕ) → pos m <ℤ pos n → m < n
-pos-<⁻ m n h = ltb→lt m n (h .lt)
 
 -- naturals that are equal as whole numbers are equal
 pub pos-inj : (m n : ℕ) → pos m ≡ pos n → m ≡ n
@@ -79,31 +71,12 @@ pub +ℤ-cancel-l : (a b c : ℤ) → a +ℤ b ≡ a +ℤ c → b ≡ c
 +ℤ-cancel-l a b c h =
     ring₂ (λ a b. b ≐ ⊖ a ⊕ (a ⊕ b)) a b refl ∙ ap (λ z. negℤ a +ℤ z) h ∙ ring₂ (λ a c. ⊖ a ⊕ (a ⊕ c) ≐ c) a c refl
 
--- two numbers, each at most the other, are equal
-pub ≤ℤ-antisym : {a b : ℤ} → a ≤ℤ b → b ≤ℤ a → a ≡ b
-≤ℤ-antisym {a} {b} h k =
-    let (m, p) = diff h in
-    let (n, q) = diff k in
-    let e : pos (m + n) ≡ pos 0 =
-    +ℤ-cancel-l a (pos (m + n)) (pos 0) (ring₃ (λ a m n. a ⊕ (m ⊕ n) ≐ a ⊕ m ⊕ n) a (pos m) (pos n) refl ∙ ap (λ z. z +ℤ pos n) p ∙ q ∙ sym (+ℤ-idr a))
-    in
-    sym (+ℤ-idr a) ∙ ap (λ (x : ℕ). a +ℤ pos x) (go m n (pos-inj (m + n) 0 e)) ∙ p
-  where
-    go : (m n : ℕ) → m + n ≡ 0 → 0 ≡ m
-    go m n h = omega arith
-
 -- orders are added
 pub ≤ℤ-+ : {a b c d : ℤ} → a ≤ℤ b → c ≤ℤ d → (a +ℤ c) ≤ℤ (b +ℤ d)
 ≤ℤ-+ {a} {b} {c} {d} h k =
     let (m, p) = diff h in
     let (n, q) = diff k in
     by-diff (a +ℤ c) (b +ℤ d) (m + n) (ring₄ (λ a c m n. a ⊕ c ⊕ (m ⊕ n) ≐ a ⊕ m ⊕ (c ⊕ n)) a c (pos m) (pos n) refl ∙ ap₂ _+ℤ_ p q)
-
--- a negation turns an order around
-pub ≤ℤ-neg : {a b : ℤ} → a ≤ℤ b → negℤ b ≤ℤ negℤ a
-≤ℤ-neg {a} {b} h =
-    let (m, p) = diff h in
-    by-diff (negℤ b) (negℤ a) m (ap (λ z. negℤ z +ℤ pos m) (sym p) ∙ ring₂ (λ a m. ⊖ (a ⊕ m) ⊕ m ≐ ⊖ a) a (pos m) refl)
 
 -- a number that is not negative is a natural
 pub natural : {c : ℤ} → pos 0 ≤ℤ c → (n : ℕ) × (pos n ≡ c)
@@ -131,18 +104,6 @@ pub *ℤ-nonneg : {a b : ℤ} → pos 0 ≤ℤ a → pos 0 ≤ℤ b → pos 0 �
 -- a sum of two that are not negative is not negative
 pub +ℤ-nonneg : {a b : ℤ} → pos 0 ≤ℤ a → pos 0 ≤ℤ b → pos 0 ≤ℤ (a +ℤ b)
 +ℤ-nonneg {a} {b} h k = ≤ℤ-+ h k
-
--- a difference in order is not negative
-pub sub-nonneg : {a b : ℤ} → a ≤ℤ b → pos 0 ≤ℤ (b -ℤ a)
-sub-nonneg {a} {b} h =
-    let (n, p) = diff h in
-    by-diff (pos 0) (b -ℤ a) n (ring₂ (λ a n. # 0 ⊕ n ≐ a ⊕ n ⊝ a) a (pos n) refl ∙ ap (λ z. z -ℤ a) p)
-
--- a difference that is not negative is in order
-pub of-sub-nonneg : {a b : ℤ} → pos 0 ≤ℤ (b -ℤ a) → a ≤ℤ b
-of-sub-nonneg {a} {b} h =
-    let (n, p) = natural h in
-    by-diff a b n (ap (λ z. a +ℤ z) p ∙ ring₂ (λ a b. a ⊕ (b ⊝ a) ≐ b) a b refl)
 
 -- a summand that is not negative makes no sum less
 pub le-+ : {a b c : ℤ} → pos 0 ≤ℤ c → a +ℤ c ≡ b → a ≤ℤ b
@@ -278,12 +239,7 @@ pos-sub m n h = ring₂ (λ n d. d ≐ n ⊕ d ⊝ n) (pos n) (pos (m - n)) refl
     go : (m n : ℕ) → n ≤ m → n + (m - n) ≡ m
     go m n h = omega arith
 
--- ---- omega over pos
--- an order of whole numbers by omega
-omega-example : (a b c : ℕ) → pos a ≤ℤ pos b → b < c → pos (a + a) <ℤ pos (b + c)
-omega-example a b c h k = omega (arith, pos-≤⁻, pos-<)
-
--- ---- an equation or an order from others, by a combination of them that `ring` confirms
+-- ---- an equation from others, by a combination of them that `ring` confirms
 -- from one equation, times k
 pub comb₁ : {a b l r : ℤ} (k : ℤ) → l ≡ r → a -ℤ b ≡ k *ℤ (l -ℤ r) → a ≡ b
 comb₁ {a} {b} {l} {r} k h e =
@@ -293,12 +249,3 @@ comb₁ {a} {b} {l} {r} k h e =
 pub comb₂ : {a b l r l′ r′ : ℤ} (k k′ : ℤ) → l ≡ r → l′ ≡ r′ → a -ℤ b ≡ k *ℤ (l -ℤ r) +ℤ k′ *ℤ (l′ -ℤ r′) → a ≡ b
 comb₂ {a} {b} {l} {r} {l′} {r′} k k′ h h′ e =
     comb₁ k h (e ∙ ap (λ z. k *ℤ (l -ℤ r) +ℤ k′ *ℤ (z -ℤ r′)) h′ ∙ ring₅ (λ k l r k′ r′. k ⊗ (l ⊝ r) ⊕ k′ ⊗ (r′ ⊝ r′) ≐ k ⊗ (l ⊝ r)) k l r k′ r′ refl)
-
--- from one order, times k that is not negative
-pub le-comb : {a b l r : ℤ} (k : ℤ) → pos 0 ≤ℤ k → l ≤ℤ r → b -ℤ a ≡ k *ℤ (r -ℤ l) → a ≤ℤ b
-le-comb k z h e = of-sub-nonneg (subst (λ x. pos 0 ≤ℤ x) (sym e) (*ℤ-nonneg z (sub-nonneg h)))
-
--- an equation from two
-comb-example : (x y p q : ℤ) → pos 2 *ℤ x +ℤ pos 3 *ℤ y ≡ p → x -ℤ y ≡ q → pos 5 *ℤ x ≡ p +ℤ pos 3 *ℤ q
-comb-example x y p q h g =
-    comb₂ (pos 1) (pos 3) h g (ring₄ (λ x y p q. # 5 ⊗ x ⊝ (p ⊕ # 3 ⊗ q) ≐ # 1 ⊗ (# 2 ⊗ x ⊕ # 3 ⊗ y ⊝ p) ⊕ # 3 ⊗ (x ⊝ y ⊝ q)) x y p q refl)

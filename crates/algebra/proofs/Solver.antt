@@ -193,7 +193,7 @@ module _ (ρ : ℕ → ℤ) where
   pub sound : (a b : Expr) → norm a ≡ norm b → value ρ a ≡ value ρ b
   sound a b h = sym (norm-is a) ∙ ap (valueP ρ) h ∙ norm-is b
 
--- ---- the solver, for 1 to 9 unknowns
+-- ---- the solver, for 1 to 7 unknowns
 -- an equation of two expressions
 pub record Eqn : Type 0 where
   pub lhs : Expr
@@ -253,11 +253,3 @@ ring₆ q a b c d e f = solve (a ◂ b ◂ c ◂ d ◂ e ◂ f ◂ none) (q (var
 -- the solver, for seven unknowns
 pub ring₇ : (q : Expr → Expr → Expr → Expr → Expr → Expr → Expr → Eqn) (a b c d e f g : ℤ) → Normal (q (var 0) (var 1) (var 2) (var 3) (var 4) (var 5) (var 6)) → Holds (a ◂ b ◂ c ◂ d ◂ e ◂ f ◂ g ◂ none) (q (var 0) (var 1) (var 2) (var 3) (var 4) (var 5) (var 6))
 ring₇ q a b c d e f g = solve (a ◂ b ◂ c ◂ d ◂ e ◂ f ◂ g ◂ none) (q (var 0) (var 1) (var 2) (var 3) (var 4) (var 5) (var 6))
-
--- the solver, for eight unknowns
-pub ring₈ : (q : Expr → Expr → Expr → Expr → Expr → Expr → Expr → Expr → Eqn) (a b c d e f g h : ℤ) → Normal (q (var 0) (var 1) (var 2) (var 3) (var 4) (var 5) (var 6) (var 7)) → Holds (a ◂ b ◂ c ◂ d ◂ e ◂ f ◂ g ◂ h ◂ none) (q (var 0) (var 1) (var 2) (var 3) (var 4) (var 5) (var 6) (var 7))
-ring₈ q a b c d e f g h = solve (a ◂ b ◂ c ◂ d ◂ e ◂ f ◂ g ◂ h ◂ none) (q (var 0) (var 1) (var 2) (var 3) (var 4) (var 5) (var 6) (var 7))
-
--- the solver, for nine unknowns
-pub ring₉ : (q : Expr → Expr → Expr → Expr → Expr → Expr → Expr → Expr → Expr → Eqn) (a b c d e f g h i : ℤ) → Normal (q (var 0) (var 1) (var 2) (var 3) (var 4) (var 5) (var 6) (var 7) (var 8)) → Holds (a ◂ b ◂ c ◂ d ◂ e ◂ f ◂ g ◂ h ◂ i ◂ none) (q (var 0) (var 1) (var 2) (var 3) (var 4) (var 5) (var 6) (var 7) (var 8))
-ring₉ q a b c d e f g h i = solve (a ◂ b ◂ c ◂ d ◂ e ◂ f ◂ g ◂ h ◂ i ◂ none) (q (var 0) (var 1) (var 2) (var 3) (var 4) (var 5) (var 6) (var 7) (var 8))

@@ -2,10 +2,10 @@
 use mathlib.Core.Path.{_≡_, refl, sym, _∙_, ap, ap₂, fun-ext, subst}
 use mathlib.Core.Bool.{Bool, true, false, cond}
 use Prim.Native.Nat.{ℕ, zero, suc, _+_, _*_, _≤_, _<_}
-use native.Mathlib.Nat.{add-zero, add-suc, le-of-lt, lt-of-not-le, le-dest, mul-add, add-mul, suc-mul, mul-comm}
+use native.Mathlib.Nat.{add-zero, add-suc}
 use native.Mathlib.Numerals.{add-one}
 use native.Mathlib.Omega.{arith}
-use native.Mathlib.Decide.{ℕ-discrete, decLe}
+use native.Mathlib.Decide.{ℕ-discrete}
 use lib.Dec.{eqb}
 use lib.Signed.{_≤ℤ_, ≤ℤ-refl}
 use borrow.Author.Tests.{eq-eqb, ne-eqb}
@@ -86,11 +86,6 @@ unfolding sum
 sum-swap zero n f = sym (sum-zero n)
 sum-swap (suc m) n f = ap (λ z. z +ℤ sum n (λ j. f m j)) (sum-swap m n f) ∙ sym (sum-add n (λ j. sum m (λ i. f i j)) (λ j. f m j))
 
--- a product of two sums is the sum of the products
-pub sum-prod : (m n : ℕ) (f g : ℕ → ℤ) → sum m f *ℤ sum n g ≡ sum m (λ i. sum n (λ j. f i *ℤ g j))
-sum-prod m n f g =
-    sym (sum-scale-r m (sum n g) f) ∙ sum-ext m (λ i. f i *ℤ sum n g) (λ i. sum n (λ j. f i *ℤ g j)) (λ i. sym (sum-scale n (f i) g))
-
 -- ---- split at an index
 -- the first m terms, then n more
 pub sum-split : (m n : ℕ) (f : ℕ → ℤ) → sum (m + n) f ≡ sum m f +ℤ sum n (λ i. f (m + i))
@@ -99,13 +94,6 @@ sum-split m zero f = ap (λ (k : ℕ). sum k f) (add-zero m) ∙ sym (+ℤ-idr (
 sum-split m (suc n) f =
     ap (λ (k : ℕ). sum k f) (add-suc m n) ∙ ap (λ z. z +ℤ f (m + n)) (sum-split m n f)
     ∙ ring₃ (λ s t a. s ⊕ t ⊕ a ≐ s ⊕ (t ⊕ a)) (sum m f) (sum n (λ i. f (m + i))) (f (m + n)) refl
-
--- the first term by itself
-pub sum-first : (n : ℕ) (f : ℕ → ℤ) → sum (suc n) f ≡ f 0 +ℤ sum n (λ i. f (suc i))
-unfolding sum
-sum-first zero f = ring₁ (λ a. # 0 ⊕ a ≐ a ⊕ # 0) (f 0) refl
-sum-first (suc n) f =
-    ap (λ z. z +ℤ f (suc n)) (sum-first n f) ∙ ring₃ (λ a s b. a ⊕ s ⊕ b ≐ a ⊕ (s ⊕ b)) (f 0) (sum n (λ i. f (suc i))) (f (suc n)) refl
 
 -- ---- one term: `cond (eqb i j) x y` is "x if i = j, else y"
 -- a sum of which all terms but one are 0
@@ -213,27 +201,11 @@ unfolding sumℕ
 sumℕ-swap zero n f = omega (arith, sumℕ-const n 0)
 sumℕ-swap (suc m) n f = omega (arith, sumℕ-swap m n f, sumℕ-add n (λ j. sumℕ m (λ i. f i j)) (λ j. f m j))
 
--- the first m terms, then n more
-pub sumℕ-split : (m n : ℕ) (f : ℕ → ℕ) → sumℕ (m + n) f ≡ sumℕ m f + sumℕ n (λ i. f (m + i))
-unfolding sumℕ
-sumℕ-split m zero f = ap (λ (k : ℕ). sumℕ k f) (add-zero m) ∙ sym (add-zero (sumℕ m f))
-sumℕ-split m (suc n) f = ap (λ (k : ℕ). sumℕ k f) (add-suc m n) ∙ omega (arith, sumℕ-split m n f)
-
 -- larger terms make a larger sum
 pub sumℕ-le : (n : ℕ) (f g : ℕ → ℕ) → ((i : ℕ) → i < n → f i ≤ g i) → sumℕ n f ≤ sumℕ n g
 unfolding sumℕ
 sumℕ-le zero f g h = omega arith
 sumℕ-le (suc n) f g h = omega (arith, sumℕ-le n f g (λ i l. h i (omega arith)), h n (omega arith))
-
--- a term is at most the sum; so a sum that is 0 has every term 0
-pub sumℕ-term : (n i : ℕ) (f : ℕ → ℕ) → i < n → f i ≤ sumℕ n f
-unfolding sumℕ
-sumℕ-term zero i f l = omega arith
-sumℕ-term (suc n) i f l = go (sumℕ-term n i f) (ℕ-discrete i n)
-  where
-    go : (i < n → f i ≤ sumℕ n f) → Dec (i ≡ n) → f i ≤ sumℕ n f + f n
-    go ih (yes q) = omega (arith, ap f q)
-    go ih (no q) = omega (arith, ih (omega arith))
 
 -- no terms, as a loop begins
 pub sumℕ-none : (f : ℕ → ℕ) → 0 ≡ sumℕ 0 f
@@ -278,35 +250,3 @@ sumℕ-others n i f l =
     both : (t : Bool) (x : ℕ) → x ≡ cond t x 0 + cond t 0 x
     both true x = omega arith
     both false x = omega arith
-
--- ---- the square of a sum
-
-twice-at : (a d : ℕ) → 2 * (a * (a + d)) ≤ a * a + (a + d) * (a + d)
-twice-at a d = simp (mul-add, add-mul, mul-comm) (omega arith)
-
-twice-le : (a b : ℕ) → a ≤ b → 2 * (a * b) ≤ a * a + b * b
-twice-le a b h = subst (λ (x : ℕ). 2 * (a * x) ≤ a * a + x * x) (le-dest h .1) (twice-at a (le-dest h .0))
-
--- twice a product is at most the sum of the squares
-pub twice-product : (a b : ℕ) → 2 * (a * b) ≤ a * a + b * b
-twice-product a b = by (decLe a b)
-  where
-    by : Dec (a ≤ b) → 2 * (a * b) ≤ a * a + b * b
-    by (yes h) = twice-le a b h
-    by (no f) = omega (arith, twice-le b a (le-of-lt (lt-of-not-le f)), mul-comm a b)
-
-module _ (f : ℕ → ℕ) where
-  cross : (n x : ℕ) → 2 * (sumℕ n f * x) ≤ sumℕ n (λ i. f i * f i) + n * (x * x)
-  unfolding sumℕ
-  cross zero x = omega arith
-  cross (suc n) x = rw (add-mul, suc-mul) (omega (arith, cross n x, twice-product (f n) x))
-
-  -- the square of a sum of n numbers is at most n times the sum of their squares
-  pub sumℕ-squared : (n : ℕ) → sumℕ n f * sumℕ n f ≤ n * sumℕ n (λ i. f i * f i)
-  unfolding sumℕ
-  sumℕ-squared zero = omega arith
-  sumℕ-squared (suc n) =
-      let x : ℕ = f n in
-      let s : ℕ = sumℕ n f in
-      let split : (s + x) * (s + x) ≡ s * s + 2 * (s * x) + x * x = simp (mul-add, add-mul, mul-comm) (omega arith) in
-      rw (split, suc-mul, mul-add) (omega (arith, sumℕ-squared n, cross n x))

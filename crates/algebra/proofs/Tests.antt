@@ -1,30 +1,17 @@
--- Laws of the tests that compute: of `&&`, of `all`, of `firstFrom` and of `eqZ`.
---     all-is, all-at        what holds everywhere holds at i
+-- Laws of the tests that compute: of `&&`, of `all` and of `firstFrom`.
+--     all-at                what holds everywhere holds at i
 --     all-more, all-fails   one turn of a loop over `all`
 --     first-here, first-on  one turn of a search
 --     first-is              which number a search finds
 -- Assumes nothing.
 use Prim.Native.Nat.{ℕ, zero, suc, _+_, _-_, _≤_, _<_}
-use mathlib.Core.Path.{_≡_, refl, sym, ap, subst, _∙_}
+use mathlib.Core.Path.{_≡_, refl, sym, ap, _∙_}
 use mathlib.Core.Bool.{Bool, true, false, _&&_, false≢true}
 use native.Mathlib.Numerals.{add-one}
 use native.Mathlib.Omega.{arith}
 use native.Mathlib.Decide.{ℕ-discrete}
-use borrow.Author.Tests.{eq-eqb}
-use lib.Dec.{T, eqb→eq}
-use lib.IntN.{ℤ, pos, negsuc}
-use Rattle.algebra.specs.Ranges.{all, firstFrom, eqZ}
-
--- ---- a test that holds, as a statement and as an equation
-
--- a test that holds is `true`
-pub T-true : (b : Bool) → T b → b ≡ true
-T-true true t = refl
-T-true false t = absurd t
-
--- a test that is `true` holds
-pub true-T : {b : Bool} → b ≡ true → T b
-true-T e = subst T (sym e) tt
+use lib.Dec.{T}
+use Rattle.algebra.specs.Ranges.{all, firstFrom}
 
 -- ---- two tests
 
@@ -74,14 +61,6 @@ all-at (suc n) p e i l = go (all-at n p (and-right (p n) (all n p) e) i) (ℕ-di
     go : (i < n → p i ≡ true) → Dec (i ≡ n) → p i ≡ true
     go ih (yes q) = ap p q ∙ and-left (p n) (all n p) e
     go ih (no q) = ih (omega arith)
-
--- what holds at every number below n holds at i
-pub all-is : (n : ℕ) (p : ℕ → Bool) → T (all n p) → (i : ℕ) → i < n → T (p i)
-all-is n p t i l = true-T (all-at n p (T-true (all n p) t) i l)
-
--- with no numbers it holds, as a loop begins
-pub all-none : (p : ℕ → Bool) → all 0 p ≡ true
-all-none p = refl
 
 -- one number more, as a loop's `i + 1` has it
 pub all-more : (n : ℕ) (p : ℕ → Bool) → all n p ≡ true → p n ≡ true → all (n + 1) p ≡ true
@@ -160,18 +139,6 @@ module _ (p : ℕ → Bool) where
       go true e ih = rw e (omega arith, omega arith)
       go false e (l, m) = rw e (omega arith, omega arith)
 
-  -- the test holds at a number that is found
-  pub first-holds : (i c : ℕ) → firstFrom p i c < i + c → p (firstFrom p i c) ≡ true
-  unfolding firstFrom
-  first-holds i zero l = absurd (omega arith)
-  first-holds i (suc c) l = go (p i) refl l (first-holds (suc i) c)
-    where
-      go : (b : Bool) → p i ≡ b → firstFrom p i (suc c) < i + suc c → (firstFrom p (suc i) c < suc i + c → p (firstFrom p (suc i) c) ≡ true) → p (firstFrom p i (suc c)) ≡ true
-      go true e l ih = rw e e
-      go false e l ih =
-          let m : firstFrom p (suc i) c < i + suc c = rw e at l in
-          rw e (ih (omega arith))
-
   -- the test fails at every number before the one that is found
   pub first-before : (i c j : ℕ) → i ≤ j → j < firstFrom p i c → p j ≡ false
   unfolding firstFrom
@@ -182,31 +149,3 @@ module _ (p : ℕ → Bool) where
       go true e m ih d = let o : j < i = rw e at m in absurd (omega arith)
       go false e m ih (yes q) = ap p (sym q) ∙ e
       go false e m ih (no q) = ih (omega arith) (rw e at m)
-
--- equal tests find the same number
-pub first-cong : (p q : ℕ → Bool) (i c : ℕ) → ((j : ℕ) → i ≤ j → j < i + c → p j ≡ q j) → firstFrom p i c ≡ firstFrom q i c
-unfolding firstFrom
-first-cong p q i zero h = refl
-first-cong p q i (suc c) h = rw (h i (omega arith) (omega arith), first-cong p q (suc i) c (λ j l m. h j (omega arith) (omega arith)))
-
--- ---- equal whole numbers
-
--- numbers that test equal are equal
-pub eqZ-is : (a b : ℤ) → T (eqZ a b) → a ≡ b
-eqZ-is (pos a) (pos b) t = ap pos (eqb→eq a b t)
-eqZ-is (pos a) (negsuc b) t = absurd t
-eqZ-is (negsuc a) (pos b) t = absurd t
-eqZ-is (negsuc a) (negsuc b) t = ap negsuc (eqb→eq a b t)
-
--- numbers that test equal are equal, from the equation of the test
-pub eqZ-true : (a b : ℤ) → eqZ a b ≡ true → a ≡ b
-eqZ-true a b e = eqZ-is a b (true-T e)
-
--- a number tests equal to itself
-pub eqZ-self : (a : ℤ) → eqZ a a ≡ true
-eqZ-self (pos a) = eq-eqb a a refl
-eqZ-self (negsuc a) = eq-eqb a a refl
-
--- equal numbers test equal
-pub eq-eqZ : (a b : ℤ) → a ≡ b → eqZ a b ≡ true
-eq-eqZ a b e = ap (eqZ a) (sym e) ∙ eqZ-self a

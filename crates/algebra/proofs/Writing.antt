@@ -1,6 +1,6 @@
 -- Laws of `write` and `Wrote`: a text and then another, the length, and a text that has room. Assumes nothing.
 use mathlib.Core.Path.{_≡_, refl, sym, ap, subst, _∙_}
-use mathlib.Core.List.{List, [], _∷_, _++_, append-assoc}
+use mathlib.Core.List.{List, [], _∷_, _++_}
 use Prim.Native.Nat.{ℕ, suc, _+_, _≤_, _<_}
 use native.Mathlib.Numerals.{add-one}
 use native.Mathlib.Omega.{arith}
@@ -119,12 +119,6 @@ counts {o} {o′} {r} {s} p h =
 pub in-front : {o o′ : List ℕ} {r : ℕ} {s : List ℕ} → Wrote o 0 s o′ r → length s ≤ length o → length o < 18446744073709551615 → o′ ≡ s ++ drop (length s) o
 in-front {o} {o′} {r} {s} p h l =
     (λ j. p .is j .0) ∙ (λ j. plainly o 0 s (omega arith) j .0) ∙ sets-eq s o 0 (omega arith) ∙ (λ j. s ++ drop (zero-add (length s) j) o)
-
--- with room, the text stands at its place
-pub at-place : {o o′ : List ℕ} {at r : ℕ} {s : List ℕ} → Wrote o at s o′ r → at + length s ≤ length o → length o < 18446744073709551615 → (r ≡ at + length s) × (o′ ≡ take at o ++ (s ++ drop (at + length s) o))
-at-place {o} {o′} {at} {r} {s} p h l =
-    let e = plainly o at s (omega arith) in
-    ((λ j. p .is j .1) ∙ (λ j. e j .1), (λ j. p .is j .0) ∙ (λ j. e j .0) ∙ sets-eq s o at h ∙ append-assoc (take at o) s (drop (at + length s) o))
 
 -- a dry run that counts more than m says that the text is longer than m
 pub longer : {o o′ s : List ℕ} {n : ℕ} (m : ℕ) → Wrote o 0 s o′ n → m < 18446744073709551615 → m < n → m < length s

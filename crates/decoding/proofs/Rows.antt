@@ -1,11 +1,11 @@
--- Laws of the numbers that stand one after another in the bytes, and of a room that is written with them: which, and what the room's start is. Assumes nothing.
-use Prim.Native.Nat.{ℕ, zero, suc, _+_, _*_, _<_, _≤_}
-use mathlib.Core.Path.{_≡_, refl, sym, ap, ap₂, _∙_}
+-- The numbers that stand one after another in the bytes, and what stands at the start of a room that is written with them. Assumes nothing.
+use Prim.Native.Nat.{ℕ, zero, suc, _+_, _*_, _≤_}
+use mathlib.Core.Path.{_≡_, refl, ap, ap₂, _∙_}
 use mathlib.Core.List.{List, [], _∷_}
 use native.Mathlib.Omega.{arith}
 use native.Mathlib.Nat.{not-suc-le-zero, le-of-suc-le-suc}
-use lib.ListN.{getD, take, length}
-use lib.IntN.{ℤ, pos}
+use lib.ListN.{take, length}
+use lib.IntN.{ℤ}
 use Rattle.algebra.specs.Buffers.{over}
 use Rattle.algebra.proofs.Filling.{over-ext}
 use Rattle.meaning.specs.File.{big, twos, numbersAt}
@@ -21,13 +21,6 @@ first s at = ap (λ (place : ℕ). twos 32 (big s place 4)) (omega arith)
 -- the next of them is that of the rest
 next : (s : List ℕ) (at k : ℕ) → numberOf s at (suc k) ≡ numberOf s (at + 4) k
 next s at k = ap (λ (place : ℕ). twos 32 (big s place 4)) (omega arith)
-
--- which stands at k
-pub getD-numbers : (s : List ℕ) (at c k : ℕ) → k < c → getD (numbersAt s at c) k (pos 0) ≡ numberOf s at k
-unfolding numbersAt
-getD-numbers s at zero k h = absurd (not-suc-le-zero h)
-getD-numbers s at (suc c) zero h = sym (first s at)
-getD-numbers s at (suc c) (suc k) h = getD-numbers s (at + 4) c k (le-of-suc-le-suc h) ∙ sym (next s at k)
 
 -- a room that holds c of them holds them at its start
 pub take-numbers : (s : List ℕ) (at c : ℕ) (l : List ℤ) → c ≤ length l → take c (over c (numberOf s at) l) ≡ numbersAt s at c

@@ -7,7 +7,7 @@ use Prim.Native.Nat.{ℕ, zero, suc, _+_, _*_, _/_, _%_, _^_, _≤_, _<_}
 use native.Mathlib.Nat.{pow-suc, div-lt-iff-lt-mul, suc-mul}
 use native.Mathlib.Omega.{arith}
 use lib.Dec.{ltb, lit<}
-use lib.IntN.{ℤ, pos, negsuc, natAbs}
+use lib.IntN.{ℤ, pos, negsuc}
 use lib.ListN.{length, length-append}
 use borrow.Author.Tests.{ltb-false}
 use Rattle.records.specs.declared.Parameters.{Parameters}
@@ -37,18 +37,9 @@ digits-power zero k n h = omega (arith, digits-places 1 n)
 digits-power (suc s) zero n h = one-longer (suc s) zero n (λ l. absurd (omega arith))
 digits-power (suc s) (suc k) n h = one-longer (suc s) (suc k) n (λ l. digits-power s k (n / 10) (div-lt-iff-lt-mul (lit< tt) .1 (rw pow-suc at h)))
 
--- below 10 to the power k + 1 a number has at most k + 1 digits
-pub digits-length : (k n : ℕ) → n < 10 ^ suc k → length (digits 20 n) ≤ k + 1
-digits-length k n h = omega (arith, digits-power 19 k n h)
-
--- and its text one byte more
+-- below 10 to the power k + 1 a number has at most k + 1 digits, and its text one byte more
 pub spaced-length : (k n : ℕ) → n < 10 ^ suc k → length (spaced n) ≤ k + 2
 spaced-length k n h = omega (arith, digits-power 19 k n h)
-
--- a signed number whose size is below 10 to the power k + 1
-pub signed-length : (k : ℕ) (x : ℤ) → natAbs x < 10 ^ suc k → length (signedText x) ≤ k + 3
-signed-length k (pos n) h = omega (arith, digits-power 19 k n h)
-signed-length k (negsuc n) h = omega (arith, digits-power 19 k (suc n) h)
 
 -- the text of any number
 pub spaced-most : (n : ℕ) → length (spaced n) ≤ 21

@@ -1,4 +1,4 @@
 -- What stands at a place by the tests, what a field that was found tells, and what the promise determines.
 pub mod Answers
-pub mod Within
+pub mod Says
 pub mod Determined

@@ -1,6 +1,6 @@
 -- A chain of tests, taken apart: where it accepts, every test of it held. Code cites these laws, never a chain's text.
 --     opened, held, accepts         an accepting chain and an accepting test, both ways
---     chained, refused-stays        how chains are put together
+--     goes-on, refused-stays        how chains are put together
 --     fits, sized-yes, sized-no     the test of the sizes decides `Fits`
 --     sound, measured, job          what an accepted design, its readings and a whole job are, as records
 -- Assumes nothing.
@@ -59,11 +59,6 @@ goes-on b e = ap (λ (a : Verdict). a ⨾ b) e
 -- a refusal is not changed by what comes after it
 pub refused-stays : {a : Verdict} (b : Verdict) (k at : ℕ) → a ≡ refused k at → a ⨾ b ≡ refused k at
 refused-stays b k at e = ap (λ (a : Verdict). a ⨾ b) e
-
--- a chain may be cut anywhere
-pub chained : (a b c : Verdict) → a ⨾ b ⨾ c ≡ a ⨾ (b ⨾ c)
-chained Accepted b c = refl
-chained (Refused k at) b c = refl
 
 -- a test that always holds may be left out
 pub accepted-last : (a : Verdict) → a ⨾ accepted ≡ a

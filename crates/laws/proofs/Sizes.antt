@@ -6,13 +6,12 @@
 -- Assumes nothing.
 use mathlib.Core.Path.{_≡_, refl, ap, subst}
 use mathlib.Core.Bool.{true}
-use mathlib.Core.List.{List, [], _∷_}
+use mathlib.Core.List.{List}
 use Prim.Native.Nat.{ℕ, zero, suc, _+_, _-_, _*_, _/_, _^_, _≤_, _<_}
 use native.Mathlib.Nat.{mul-le-mul, mul-le-mul-left, mul-le-mul-right, le-of-mul-le-mul-left, mul-pos, div-add-mod'}
 use native.Mathlib.Omega.{arith}
 use native.Mathlib.Decide.{decLt}
 use borrow.Author.Tests.{ltb-true}
-use lib.ListN.{length}
 use lib.IntN.{ℤ, pos, natAbs, _-ℤ_, _*ℤ_}
 use lib.Signed.{_≤ℤ_}
 use Rattle.algebra.specs.Ranges.{sum, sumℕ}
@@ -22,10 +21,9 @@ use Rattle.algebra.proofs.Sums.{sum-sq-nonneg}
 use Rattle.algebra.proofs.Bounds.{abs-*, abs-+, abs-sub, abs-*-le, abs-mono, abs-square, abs-sum, abs-weighted}
 use Rattle.records.specs.declared.Head.{Head}
 use Rattle.meaning.specs.Design.{objects, blocks, occ, left, right, balanced, beta}
-use Rattle.meaning.specs.Analysis.{sq, reading, sign, total, member, members, restrained, vbeta, numeratorOf, denominatorOf, along, difference, deviationOf, squaredReadings, squaredTotals, q, qOf, freedom, spreadHundredths, spreadHundredthsOf}
+use Rattle.meaning.specs.Analysis.{sq, reading, sign, total, member, members, restrained, vbeta, numeratorOf, denominatorOf, difference, deviationOf, squaredReadings, squaredTotals, q, qOf, freedom, spreadHundredths, spreadHundredthsOf}
 use Rattle.meaning.specs.Publishing.{minus, nearest, published}
 use Rattle.laws.proofs.Chains.{Sound, Readings}
-use Rattle.laws.proofs.Occurrences.{Each, each-head, each-tail}
 use Rattle.laws.proofs.Clean.{block-once}
 use Rattle.laws.proofs.Incidence.{block-size}
 use Rattle.laws.proofs.Counting.{incidence, parameters}
@@ -33,13 +31,6 @@ use Rattle.laws.proofs.Matrix.{difference-signs}
 use Rattle.laws.proofs.Solution.{members-most}
 use Rattle.laws.proofs.Analysis.{q-nonneg, vbeta-some}
 use Rattle.laws.proofs.Rounding.{Nearest, nearest-is, signed-size, spread-largest}
-
--- the sum of f over a list, where f is at most B on it
-pub along-most : (B : ℕ) (f : ℕ → ℤ) (xs : List ℕ) → Each (λ x. natAbs (f x) ≤ B) xs → natAbs (along f xs) ≤ length xs * B
-unfolding along
-along-most B f [] h = omega arith
-along-most B f (x ∷ xs) h =
-    omega (arith, abs-+ (f x) (along f xs), each-head (λ x. natAbs (f x) ≤ B) x xs h, along-most B f xs (each-tail (λ x. natAbs (f x) ≤ B) x xs h))
 
 -- ---- the parameters
 

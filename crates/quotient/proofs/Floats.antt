@@ -17,7 +17,7 @@ use lib.Ieee.Back.{round-whole}
 use lib.Ieee.Nearest.{closest}
 use lib.Ieee.Order.{drop, kept}
 use lib.Ieee.Scale.{round-same, normal-of-fraction}
-use Rattle.meaning.specs.Publishing.{minus, gap, float, floatZero, Near}
+use Rattle.meaning.specs.Publishing.{minus, gap, float, Near}
 
 -- x has the sign s, and its size is within one part in 2 ^ p of n / d
 abbrev NearSize : ℕ → Float → Bool → ℕ → ℕ → Type 0
@@ -228,7 +228,3 @@ near p (fin t m e) a d h = h
 -- it has the fraction's sign, and is at most the fraction's size divided by 2 ^ 53 away from it
 pub float-near : (a : ℤ) (d : ℕ) → natAbs a < 2 ^ 53 → 0 < d → d < 2 ^ 53 → Near 53 (float a d) a d
 float-near a d h D k = near 53 (float a d) a d (whole-near binary64 (minus a) (natAbs a) d h D k)
-
--- of 0 it is 0.0, without a minus
-pub float-none : (d : ℕ) → 0 < d → float (pos 0) d ≡ floatZero
-float-none d D = round-zero binary64 false d D

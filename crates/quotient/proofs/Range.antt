@@ -1,16 +1,16 @@
 -- The exact range as facts, and what the two answers are inside it. Assumes nothing.
-use mathlib.Core.Path.{_≡_, refl}
-use mathlib.Core.Bool.{Bool, true, false, cond, _&&_}
+use mathlib.Core.Path.{_≡_}
+use mathlib.Core.Bool.{true, false, _&&_}
 use Prim.Native.Nat.{ℕ, _^_, _≤_, _<_}
-use lib.IntN.{ℤ, pos, natAbs}
+use lib.IntN.{ℤ, natAbs}
 use lib.Ieee.{Float}
 use lib.Dec.{ltb}
 use borrow.Author.Tests.{ltb-true, lt-ltb, le-ltb}
 use Rattle.algebra.proofs.Tests.{and-left, and-right, and-both, and-fails-left, and-fails-right}
-use Rattle.meaning.specs.Publishing.{nearestHundredths, float, floatZero, Near}
+use Rattle.meaning.specs.Publishing.{nearestHundredths, float, Near}
 use Rattle.records.specs.declared.Value.{Value}
 use Rattle.quotient.specs.Quotient.{exact, quotientOf, hundredthsOf, valueFrom}
-use Rattle.quotient.proofs.Floats.{float-near, float-none}
+use Rattle.quotient.proofs.Floats.{float-near}
 
 -- ---- the range
 
@@ -61,15 +61,6 @@ quotient-is a d x = rw (is-exact a d x)
 -- it has the fraction's sign, and is at most the fraction's size divided by 2 to the power 53 away from it
 pub quotient-near : (a : ℤ) (d : ℕ) → Exact a d → Near 53 (quotientOf a d) a d
 quotient-near a d x = rw (quotient-is a d x) (search (float-near a d (x .top) (x .above) (x .bottom)))
-
--- of 0 it is 0.0, without a minus
-pub quotient-zero : (d : ℕ) → quotientOf (pos 0) d ≡ floatZero
-unfolding quotientOf
-quotient-zero d = by (exact (pos 0) d) refl
-  where
-    by : (t : Bool) → exact (pos 0) d ≡ t → cond t (float (pos 0) d) floatZero ≡ floatZero
-    by true e = float-none d (exact-is (pos 0) d e .above)
-    by false e = refl
 
 -- the hundredths are the nearest
 pub hundredths-is : (a : ℤ) (d : ℕ) → Exact a d → hundredthsOf a d ≡ nearestHundredths a d

@@ -2,7 +2,7 @@
 -- Assumes nothing.
 use mathlib.Core.Path.{sym, _∙_}
 use borrow.Author.Needs.{needs}
-use Rattle.framing.proofs.Within.{found-accepts, unfit-refuses}
+use Rattle.framing.proofs.Says.{found-accepts, unfit-refuses}
 use Rattle.fields.proofs.field_refusal.Statement.{statement}
 use Rattle.fields.proofs.field_refusal.Tie as tie
 

@@ -3,7 +3,6 @@
 --     over-step    a store of f i at i makes it the same at i + 1
 --     over-end     where i has come to v
 --     over-over    what was written over again
---     over-by      a list that has f below v, and from there on what it had
 --     lent-back    a part that was lent as `&mut xs[m..]` and written over, put back
 --     over-lent    the same behind a part that was written before
 --     over-full    a room that is full stays as it is
@@ -101,28 +100,12 @@ module _ {A : Type 0} where
       → ((i : ℕ) → i < k → f i ≡ g (m + i)) → putMid m (length xs - m) xs ys ≡ over (m + k) g l
   over-lent m k f g l {xs} p q h = lent-back m k f xs q ∙ rw p (over-join m k f g l h)
 
-  -- of no list, nothing
-  pub over-nothing : (v : ℕ) (f : ℕ → A) → over v f [] ≡ []
-  unfolding over
-  over-nothing zero f = refl
-  over-nothing (suc v) f = refl
-
   -- what was written is written over again
   pub over-over : (v : ℕ) (f g : ℕ → A) (l : List A) → over v g (over v f l) ≡ over v g l
   unfolding over
   over-over zero f g l = refl
   over-over (suc v) f g [] = refl
   over-over (suc v) f g (x ∷ l) = ap (λ (t : List A). g 0 ∷ t) (over-over v (λ (k : ℕ). f (suc k)) (λ (k : ℕ). g (suc k)) l)
-
-  -- a list that has f below v, and from there on what it had
-  pub over-by : (v : ℕ) (f : ℕ → A) (m l : List A) (d : A) → length m ≡ length l → ((i : ℕ) → i < v → i < length l → getD m i d ≡ f i) → ((i : ℕ) → v ≤ i → getD m i d ≡ getD l i d) → m ≡ over v f l
-  unfolding over
-  over-by v f [] [] d e g h = sym (over-nothing v f)
-  over-by v f [] (x ∷ l) d e g h = absurd (omega arith)
-  over-by v f (y ∷ m) [] d e g h = absurd (omega arith)
-  over-by zero f (y ∷ m) (x ∷ l) d e g h = ap₂ _∷_ (h 0 (omega arith)) (over-by zero f m l d (omega arith) (λ i a b. absurd (not-suc-le-zero a)) (λ i a. h (suc i) (omega arith)))
-  over-by (suc v) f (y ∷ m) (x ∷ l) d e g h =
-      ap₂ _∷_ (g 0 (omega arith) (omega arith)) (over-by v (λ (k : ℕ). f (suc k)) m l d (omega arith) (λ i a b. g (suc i) (omega arith) (omega arith)) (λ i a. h (suc i) (omega arith)))
 
 -- a room that is full at i stays as it is
 pub over-full : {A : Type 0} (i v : ℕ) (f : ℕ → A) (l : List A) → length l ≤ i → i ≤ v → over i f l ≡ over v f l

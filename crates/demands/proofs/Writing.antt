@@ -19,7 +19,7 @@ use Rattle.meaning.specs.File.{headOf, blocksOf, setOf, sumOf, readingsOf, fiel
 use Rattle.meaning.specs.Writing.{Bytes, bytesOf, readingsBody, fileOf, ReadsAs, writeVerdict, writtenAnswer, writtenAfter}
 use Rattle.meaning.proofs.Examples.{fileA}
 use Rattle.filing.proofs.Writing.{reads-back, file-bytes, the-file, one-file}
-use Rattle.demands.proofs.Files.{write-flat, refused-write, write-answer, write-front, write-later, write-reads, reads-answer, checks-alike, read-write, read-answer, read-front}
+use Rattle.demands.proofs.Files.{write-flat, refused-write, write-answer, write-front, write-later, write-reads, reads-answer, checks-alike, read-answer, read-front}
 
 module _ (h : Head) (d : List ℕ) (y : List ℤ) (w : ℕ) (M : ℤ) where
   -- ---- From n, flag, blocks, restraint and readings the file is written into lent room, with the reader's own checks. Refusals: as for direct calls, 6 included, 10 last.

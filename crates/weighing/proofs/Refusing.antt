@@ -14,7 +14,7 @@ use lib.ListN.{length}
 use Rattle.records.specs.declared.Head.{Head}
 use Rattle.records.specs.declared.Verdict.{Verdict}
 use Rattle.meaning.specs.Design.{objects, blocks, sized}
-use Rattle.meaning.specs.Refusals.{accepted, _⨾_, sizes, inReach, room}
+use Rattle.meaning.specs.Refusals.{accepted, _⨾_, inReach, room}
 use Rattle.laws.specs.Fits.{Fits}
 use Rattle.laws.proofs.Chains.{opened, held, accepts, goes-on, test-yes, accepted-last, fits, sized-yes, readings-near}
 use Rattle.weighable.specs.Verdicts.{strayWord, weighVerdict}

@@ -45,7 +45,8 @@ tests =
 -- equal whole numbers
 equals : Bool
 equals =
-    eqZ (pos 3) (pos 3) && eqZ (negsuc 3) (negsuc 3) && not (eqZ (pos 3) (pos 4)) && not (eqZ (pos 3) (negsuc 3)) && not (eqZ (negsuc 3) (pos 3)) && not (eqZ (negsuc 3) (negsuc 2))
+    eqZ (pos 3) (pos 3) && eqZ (negsuc 3) (negsuc 3) && not (eqZ (pos 3) (pos 4)) && not (eqZ (pos 3) (negsuc 3)) && not (eqZ (negsuc 3) (pos 3))
+    && not (eqZ (negsuc 3) (negsuc 2))
 
 -- a list written over from the front: none, some, all, and more than there is
 fillings : Bool

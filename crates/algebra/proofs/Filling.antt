@@ -71,7 +71,8 @@ module _ {A : Type 0} where
   getD-past (suc v) f (x ∷ l) d (suc i) h = getD-past v (λ (k : ℕ). f (suc k)) l d i (le-of-suc-le-suc h)
 
   -- the first m, and then a part from m on that was written over
-  pub over-join : (m k : ℕ) (f g : ℕ → A) (l : List A) → ((i : ℕ) → i < k → f i ≡ g (m + i)) → take m (over m g l) ++ over k f (drop m (over m g l)) ≡ over (m + k) g l
+  pub over-join : (m k : ℕ) (f g : ℕ → A) (l : List A) → ((i : ℕ) → i < k → f i ≡ g (m + i)) →
+      take m (over m g l) ++ over k f (drop m (over m g l)) ≡ over (m + k) g l
   unfolding over
   over-join zero k f g l h = over-ext k f g l (λ i hi. h i hi ∙ ap g (zero-add i)) ∙ ap (λ (n : ℕ). over n g l) (sym (zero-add k))
   over-join (suc m) zero f g [] h = ap (λ (n : ℕ). over n g []) (sym (suc-add m 0))
@@ -115,7 +116,8 @@ over-full zero (suc v) f [] h e = refl
 over-full zero (suc v) f (x ∷ l) h e = absurd (not-suc-le-zero h)
 over-full (suc i) zero f l h e = absurd (not-suc-le-zero e)
 over-full (suc i) (suc v) f [] h e = refl
-over-full {A = A} (suc i) (suc v) f (x ∷ l) h e = ap (λ (t : List A). f 0 ∷ t) (over-full i v (λ (k : ℕ). f (suc k)) l (le-of-suc-le-suc h) (le-of-suc-le-suc e))
+over-full {A = A} (suc i) (suc v) f (x ∷ l) h e =
+    ap (λ (t : List A). f 0 ∷ t) (over-full i v (λ (k : ℕ). f (suc k)) l (le-of-suc-le-suc h) (le-of-suc-le-suc e))
 
 -- a room is as long after it was written
 pub over-long : {A : Type 0} (k : ℕ) (f : ℕ → A) (room after : List A) → after ≡ over k f room → length after ≡ length room

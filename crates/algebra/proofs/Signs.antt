@@ -1,4 +1,5 @@
--- Signed numbers of 64 bits by their size and their sign: what the code's tests against bounds and against 0 say, and what `0 - x` and `!x` are. A test is an equation of its flag. Assumes nothing.
+-- Signed numbers of 64 bits by their size and their sign: what the code's tests against bounds and against 0 say, and what `0 - x` and `!x` are. A
+-- test is an equation of its flag. Assumes nothing.
 use mathlib.Core.Path.{_≡_}
 use mathlib.Core.Bool.{Bool, true, false, true≢false, false≢true}
 use Prim.Native.Nat.{ℕ, zero, suc, _+_, _-_, _^_, _≤_, _<_}

@@ -1,5 +1,6 @@
--- A solver for equations of the commutative ring ℤ, by reflection: `Expr` is the syntax of an expression over numbered unknowns, `norm` multiplies it out to a sorted sum of monomials, and `sound` says that this keeps its value.
--- `ring₃ (λ a b c. (a ⊕ b) ⊗ c ≐ a ⊗ c ⊕ b ⊗ c) x y z refl : (x +ℤ y) *ℤ z ≡ x *ℤ z +ℤ y *ℤ z`. Assumes nothing.
+-- A solver for equations of the commutative ring ℤ, by reflection: `Expr` is the syntax of an expression over numbered unknowns, `norm` multiplies it
+-- out to a sorted sum of monomials, and `sound` says that this keeps its value. `ring₃ (λ a b c. (a ⊕ b) ⊗ c ≐ a ⊗ c ⊕ b ⊗ c) x y z refl : (x +ℤ y)
+-- *ℤ z ≡ x *ℤ z +ℤ y *ℤ z`. Assumes nothing.
 use mathlib.Core.Path.{_≡_, refl, sym, _∙_, ap, ap₂}
 use mathlib.Core.Bool.{Bool, true, false, _&&_}
 use Prim.Native.Nat.{ℕ, zero, suc, _+_, _^_}
@@ -187,7 +188,8 @@ module _ (ρ : ℕ → ℤ) where
   norm-is (a ⊕ b) = addP-is (norm a) (norm b) ∙ ap₂ _+ℤ_ (norm-is a) (norm-is b)
   norm-is (a ⊗ b) = mulP-is (norm a) (norm b) ∙ ap₂ _*ℤ_ (norm-is a) (norm-is b)
   norm-is (⊖ a) =
-      mulT-is 0 (negsuc 0) unit (norm a) ∙ ap (λ z. z *ℤ valueP ρ (norm a)) (*ℤ-1 (negsuc 0)) ∙ neg-*ℤ (pos 1) (valueP ρ (norm a)) ∙ ap negℤ (one-*ℤ (valueP ρ (norm a)) ∙ norm-is a)
+      mulT-is 0 (negsuc 0) unit (norm a) ∙ ap (λ z. z *ℤ valueP ρ (norm a)) (*ℤ-1 (negsuc 0)) ∙ neg-*ℤ (pos 1) (valueP ρ (norm a))
+      ∙ ap negℤ (one-*ℤ (valueP ρ (norm a)) ∙ norm-is a)
 
   -- expressions with the same normal form have the same value
   pub sound : (a b : Expr) → norm a ≡ norm b → value ρ a ≡ value ρ b
@@ -239,17 +241,22 @@ pub ring₃ : (q : Expr → Expr → Expr → Eqn) (a b c : ℤ) → Normal (q (
 ring₃ q a b c = solve (a ◂ b ◂ c ◂ none) (q (var 0) (var 1) (var 2))
 
 -- the solver, for four unknowns
-pub ring₄ : (q : Expr → Expr → Expr → Expr → Eqn) (a b c d : ℤ) → Normal (q (var 0) (var 1) (var 2) (var 3)) → Holds (a ◂ b ◂ c ◂ d ◂ none) (q (var 0) (var 1) (var 2) (var 3))
+pub ring₄ : (q : Expr → Expr → Expr → Expr → Eqn) (a b c d : ℤ) → Normal (q (var 0) (var 1) (var 2) (var 3)) →
+    Holds (a ◂ b ◂ c ◂ d ◂ none) (q (var 0) (var 1) (var 2) (var 3))
 ring₄ q a b c d = solve (a ◂ b ◂ c ◂ d ◂ none) (q (var 0) (var 1) (var 2) (var 3))
 
 -- the solver, for five unknowns
-pub ring₅ : (q : Expr → Expr → Expr → Expr → Expr → Eqn) (a b c d e : ℤ) → Normal (q (var 0) (var 1) (var 2) (var 3) (var 4)) → Holds (a ◂ b ◂ c ◂ d ◂ e ◂ none) (q (var 0) (var 1) (var 2) (var 3) (var 4))
+pub ring₅ : (q : Expr → Expr → Expr → Expr → Expr → Eqn) (a b c d e : ℤ) → Normal (q (var 0) (var 1) (var 2) (var 3) (var 4)) →
+    Holds (a ◂ b ◂ c ◂ d ◂ e ◂ none) (q (var 0) (var 1) (var 2) (var 3) (var 4))
 ring₅ q a b c d e = solve (a ◂ b ◂ c ◂ d ◂ e ◂ none) (q (var 0) (var 1) (var 2) (var 3) (var 4))
 
 -- the solver, for six unknowns
-pub ring₆ : (q : Expr → Expr → Expr → Expr → Expr → Expr → Eqn) (a b c d e f : ℤ) → Normal (q (var 0) (var 1) (var 2) (var 3) (var 4) (var 5)) → Holds (a ◂ b ◂ c ◂ d ◂ e ◂ f ◂ none) (q (var 0) (var 1) (var 2) (var 3) (var 4) (var 5))
+pub ring₆ : (q : Expr → Expr → Expr → Expr → Expr → Expr → Eqn) (a b c d e f : ℤ) → Normal (q (var 0) (var 1) (var 2) (var 3) (var 4) (var 5)) →
+    Holds (a ◂ b ◂ c ◂ d ◂ e ◂ f ◂ none) (q (var 0) (var 1) (var 2) (var 3) (var 4) (var 5))
 ring₆ q a b c d e f = solve (a ◂ b ◂ c ◂ d ◂ e ◂ f ◂ none) (q (var 0) (var 1) (var 2) (var 3) (var 4) (var 5))
 
 -- the solver, for seven unknowns
-pub ring₇ : (q : Expr → Expr → Expr → Expr → Expr → Expr → Expr → Eqn) (a b c d e f g : ℤ) → Normal (q (var 0) (var 1) (var 2) (var 3) (var 4) (var 5) (var 6)) → Holds (a ◂ b ◂ c ◂ d ◂ e ◂ f ◂ g ◂ none) (q (var 0) (var 1) (var 2) (var 3) (var 4) (var 5) (var 6))
+pub ring₇ : (q : Expr → Expr → Expr → Expr → Expr → Expr → Expr → Eqn) (a b c d e f g : ℤ) →
+    Normal (q (var 0) (var 1) (var 2) (var 3) (var 4) (var 5) (var 6)) →
+    Holds (a ◂ b ◂ c ◂ d ◂ e ◂ f ◂ g ◂ none) (q (var 0) (var 1) (var 2) (var 3) (var 4) (var 5) (var 6))
 ring₇ q a b c d e f g = solve (a ◂ b ◂ c ◂ d ◂ e ◂ f ◂ g ◂ none) (q (var 0) (var 1) (var 2) (var 3) (var 4) (var 5) (var 6))

@@ -135,7 +135,8 @@ module _ (p : ℕ → Bool) where
   first-bounds i zero = (omega arith, omega arith)
   first-bounds i (suc c) = go (p i) refl (first-bounds (suc i) c)
     where
-      go : (b : Bool) → p i ≡ b → (suc i ≤ firstFrom p (suc i) c) × (firstFrom p (suc i) c ≤ suc i + c) → (i ≤ firstFrom p i (suc c)) × (firstFrom p i (suc c) ≤ i + suc c)
+      go : (b : Bool) → p i ≡ b → (suc i ≤ firstFrom p (suc i) c) × (firstFrom p (suc i) c ≤ suc i + c) →
+          (i ≤ firstFrom p i (suc c)) × (firstFrom p i (suc c) ≤ i + suc c)
       go true e ih = rw e (omega arith, omega arith)
       go false e (l, m) = rw e (omega arith, omega arith)
 

@@ -43,7 +43,8 @@ pub kept : {o o′ : List ℕ} {at r : ℕ} {s : List ℕ} → Wrote o at s o′
 kept {o} {o′} {at} {r} {s} p = ap (λ (x : List ℕ × ℕ). length (x .0)) (p .is) ∙ write-length o at s
 
 -- a turn of a loop over the bytes of a text
-pub more-bytes : {o o′ o″ : List ℕ} {at r r′ : ℕ} (s : List ℕ) (i : ℕ) → i < length s → Wrote o at (take i s) o′ r → Wrote o′ r (getD s i 0 ∷ []) o″ r′ → Wrote o at (take (i + 1) s) o″ r′
+pub more-bytes : {o o′ o″ : List ℕ} {at r r′ : ℕ} (s : List ℕ) (i : ℕ) → i < length s → Wrote o at (take i s) o′ r →
+    Wrote o′ r (getD s i 0 ∷ []) o″ r′ → Wrote o at (take (i + 1) s) o″ r′
 more-bytes s i h p q = rw (add-one, take-suc s i 0) (p then q)
 
 -- ---- the place

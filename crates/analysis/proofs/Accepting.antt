@@ -1,4 +1,5 @@
--- What an accepted job gives to the calls below it, and what is worked out from its totals: the definitions' own values, deviations and spread. Assumes nothing.
+-- What an accepted job gives to the calls below it, and what is worked out from its totals: the definitions' own values, deviations and spread.
+-- Assumes nothing.
 use mathlib.Core.Path.{_≡_, refl, sym, ap, ap₂, _∙_, subst, subst₂}
 use mathlib.Core.Bool.{true}
 use mathlib.Core.List.{List}
@@ -19,7 +20,22 @@ use Rattle.records.specs.declared.Head.{Head}
 use Rattle.records.specs.declared.Verdict.{Verdict}
 use Rattle.records.specs.declared.Parameters.{Parameters}
 use Rattle.meaning.specs.Design.{objects, blocks, balanced, parametersOf}
-use Rattle.meaning.specs.Analysis.{reading, total, members, numerator, denominator, vbeta, numeratorOf, denominatorOf, deviationOf, squaredReadings, squaredTotals, qOf, freedom, spreadHundredthsOf}
+use Rattle.meaning.specs.Analysis.{
+  reading,
+  total,
+  members,
+  numerator,
+  denominator,
+  vbeta,
+  numeratorOf,
+  denominatorOf,
+  deviationOf,
+  squaredReadings,
+  squaredTotals,
+  qOf,
+  freedom,
+  spreadHundredthsOf,
+}
 use Rattle.meaning.specs.Publishing.{spreadOf}
 use Rattle.meaning.specs.Refusals.{_⨾_, accepted, refused, sizes, clean, inBalance, restraint, inReach, room}
 use Rattle.meaning.specs.Calls.{slices, contents, jobVerdict, spreadingOf, rooms, solvedUnder}
@@ -29,9 +45,9 @@ use Rattle.laws.proofs.Counting.{Numbers, parameters}
 use Rattle.laws.proofs.Matrix.{difference-signs}
 use Rattle.laws.proofs.Analysis.{vbeta-some, q-nonneg}
 use Rattle.laws.proofs.Sizes.{vbeta-most, squared-readings-most, q-most}
-use Rattle.spread.specs.Hundredths.{spreadingFrom}
-use Rattle.spread.proofs.Range.{Ranged, hundredths-is}
-use Rattle.squares.proofs.Squares.{readings-squares}
+use Rattle.arithmetic.specs.Hundredths.{spreadingFrom}
+use Rattle.arithmetic.proofs.Spreads.{Ranged, hundredths-is}
+use Rattle.weighing.proofs.SquareSums.{readings-squares}
 use Rattle.weighing.specs.Developed.{totalIn}
 use Rattle.weighing.proofs.Developing.{Laid, laid-squares}
 use Rattle.weighing.proofs.Refusing.{weigh-reach}
@@ -42,7 +58,8 @@ use Rattle.verdicts.specs.Zeros.{noSolution}
 -- ---- verdicts
 
 -- what an accepted job's tests are
-pub job-tests : (h : Head) (d : List ℕ) (y : List ℤ) (w : ℕ) (M : ℤ) → jobVerdict h d y w M ≡ accepted → (slices h d y ≡ accepted) × (clean h d ≡ accepted) × (inReach y ≡ accepted)
+pub job-tests : (h : Head) (d : List ℕ) (y : List ℤ) (w : ℕ) (M : ℤ) → jobVerdict h d y w M ≡ accepted →
+    (slices h d y ≡ accepted) × (clean h d ≡ accepted) × (inReach y ≡ accepted)
 unfolding jobVerdict contents
 job-tests h d y w M e =
     let a = opened (slices h d y) (contents h d y w M) e in
@@ -58,7 +75,8 @@ module _ (h : Head) (d : List ℕ) (y : List ℤ) (words : List ℕ) (s : Sound 
   few = omega (arith, s .sizes .objects-most)
 
   -- the numerators are the definition's
-  numerator-is : (w : ℕ) (M : ℤ) → w < 2 ^ objects h → (i : ℕ) → numeratorIn (totalIn words y (blocks h)) (objects h) w (vbeta h d) M i ≡ numeratorOf h d y w M i
+  numerator-is : (w : ℕ) (M : ℤ) → w < 2 ^ objects h → (i : ℕ) →
+      numeratorIn (totalIn words y (blocks h)) (objects h) w (vbeta h d) M i ≡ numeratorOf h d y w M i
   unfolding numeratorOf
   numerator-is w M g i =
       ap₂ (λ (T S : ℤ). numerator (members (objects h) w) T S (vbeta h d) M) (a .totals y i)
@@ -75,7 +93,8 @@ module _ (h : Head) (d : List ℕ) (y : List ℤ) (words : List ℕ) (s : Sound 
 -- ---- records
 
 -- under a refusal it holds zeros
-pub no-solution-is : (told verdict : Verdict) (h : Head) (d : List ℕ) (y : List ℤ) (w k at : ℕ) → told ≡ verdict → verdict ≡ refused k at → noSolution told ≡ solvedUnder verdict h d y w
+pub no-solution-is : (told verdict : Verdict) (h : Head) (d : List ℕ) (y : List ℤ) (w k at : ℕ) → told ≡ verdict → verdict ≡ refused k at →
+    noSolution told ≡ solvedUnder verdict h d y w
 no-solution-is told verdict h d y w k at p e = ap noSolution (p ∙ e) ∙ sym (ap (λ (v : Verdict). solvedUnder v h d y w) e)
 
 -- ---- the spread
@@ -92,7 +111,8 @@ natural-difference a b c e =
 
 module _ (h : Head) (d : List ℕ) (s : Sound h d) (b : balanced h d ≡ true) (y : List ℤ) where
   -- Q as the code has it
-  q-is : (natAbs (squaredTotals h d y) ≤ vbeta h d * natAbs (squaredReadings h y)) × (vbeta h d * natAbs (squaredReadings h y) - natAbs (squaredTotals h d y) ≡ qOf h d y)
+  q-is : (natAbs (squaredTotals h d y) ≤ vbeta h d * natAbs (squaredReadings h y)) ×
+      (vbeta h d * natAbs (squaredReadings h y) - natAbs (squaredTotals h d y) ≡ qOf h d y)
   unfolding squaredReadings squaredTotals
   q-is = natural-difference (qOf h d y) (vbeta h d * natAbs (squaredReadings h y)) (natAbs (squaredTotals h d y))
       (q-nonneg h d s b y
@@ -118,12 +138,14 @@ module _ (h : Head) (d : List ℕ) (s : Sound h d) (b : balanced h d ≡ true) (
         spread = spreadOf (hundredths-is (qOf h d y) (vbeta h d) (freedom h) range j) (freedom h);
       }
 
-  module _ (r : Readings h y) (vb readings totals : ℕ) (f : vb ≡ vbeta h d) (m : readings ≡ natAbs (squaredReadings h y)) (g : totals ≡ natAbs (squaredTotals h d y)) where
+  module _ (r : Readings h y) (vb readings totals : ℕ) (f : vb ≡ vbeta h d) (m : readings ≡ natAbs (squaredReadings h y))
+      (g : totals ≡ natAbs (squaredTotals h d y)) where
     -- what is measured
     measured : Measured h vb readings totals
     measured = record {
       sizes = s .sizes;
-      q-some = subst₂ (λ (t R : ℕ). t ≤ vb * R) (sym g) (sym m) (subst (λ (v : ℕ). natAbs (squaredTotals h d y) ≤ v * natAbs (squaredReadings h y)) (sym f) (q-is .0));
+      q-some = subst₂ (λ (t R : ℕ). t ≤ vb * R) (sym g) (sym m)
+          (subst (λ (v : ℕ). natAbs (squaredTotals h d y) ≤ v * natAbs (squaredReadings h y)) (sym f) (q-is .0));
       q-most = subst₂ (λ (v R : ℕ). v * R ≤ 135200000000000000) (sym f) (sym m) (mul-le-mul (vbeta-most h d s b) (squared-readings-most h d s y r));
       freedom-some = omega (arith, parameters h d s b .enough);
     }
@@ -157,8 +179,10 @@ module _ {h : Head} {d : List ℕ} {y : List ℤ} {w : ℕ} {M : ℤ} {p : Param
   -- it can be worked out
   pub workable : Workable h y w M p words
   workable = record {
-    measured = measured h d design (its-job .measures .even) y (its-job .measures .readings) _ _ _ scale-is (sym (readings-squares h y)) (laid-squares h d y words (a .lay));
-    weighable = weigh-reach h words y 50 d (a .lay) (its-job .measures .readings .readings-long) (design .sizes .objects-most) ∙ job-tests h d y w M (a .stands) .2;
+    measured = measured h d design (its-job .measures .even) y (its-job .measures .readings) _ _ _ scale-is (sym (readings-squares h y))
+        (laid-squares h d y words (a .lay));
+    weighable = weigh-reach h words y 50 d (a .lay) (its-job .measures .readings .readings-long) (design .sizes .objects-most)
+        ∙ job-tests h d y w M (a .stands) .2;
     less = subst (λ (q : Parameters). q .l1 ≤ q .l2) (sym (a .parameters-are)) (constants .less);
     scale-most = subst (λ (x : ℕ). x ≤ 2600) (sym scale-is) (vbeta-most h d design (its-job .measures .even));
     set-inside = its-job .restraint .set-inside;
@@ -173,18 +197,21 @@ module _ {h : Head} {d : List ℕ} {y : List ℤ} {w : ℕ} {M : ℤ} {p : Param
         verdict = accepted;
         parameters = a .parameters-are j;
         denominator = denominator (members (objects h) w) (scale-is j);
-        spreading = spreading-is h d design (its-job .measures .even) y (its-job .measures .readings) _ _ _ scale-is (sym (readings-squares h y)) (laid-squares h d y words (a .lay)) j;
+        spreading = spreading-is h d design (its-job .measures .even) y (its-job .measures .readings) _ _ _ scale-is (sym (readings-squares h y))
+            (laid-squares h d y words (a .lay)) j;
       })
       ∙ sym (ap (λ (v : Verdict). solvedUnder v h d y w) e)
 
   -- so are its values
-  pub values-are : (values : List ℤ) → over (objects h) (numeratorIn (totalIn words y (blocks h)) (objects h) w (scaleIn p) M) values ≡ over (objects h) (numeratorOf h d y w M) values
+  pub values-are : (values : List ℤ) →
+      over (objects h) (numeratorIn (totalIn words y (blocks h)) (objects h) w (scaleIn p) M) values ≡ over (objects h) (numeratorOf h d y w M) values
   values-are values =
       (λ j. over (objects h) (numeratorIn (totalIn words y (blocks h)) (objects h) w (scale-is j) M) values)
       ∙ over-ext (objects h) _ _ values (λ i l. numerator-is h d y words design (a .lay) w M (its-job .restraint .set-inside) i)
 
   -- and its deviations
-  pub deviations-are : (deviations : List ℤ) → over (blocks h) (deviationIn words y (totalIn words y (blocks h)) (scaleIn p)) deviations ≡ over (blocks h) (deviationOf h d y) deviations
+  pub deviations-are : (deviations : List ℤ) →
+      over (blocks h) (deviationIn words y (totalIn words y (blocks h)) (scaleIn p)) deviations ≡ over (blocks h) (deviationOf h d y) deviations
   deviations-are deviations =
       (λ j. over (blocks h) (deviationIn words y (totalIn words y (blocks h)) (scale-is j)) deviations)
       ∙ over-ext (blocks h) _ _ deviations (deviation-is h d y words design (a .lay))

@@ -1,15 +1,84 @@
--- Any two outcomes that keep the promise of a public function are identical. `Post` is the promise itself, as the check reads it from the source. Assumes nothing.
+-- Any two outcomes that keep the promise of a public function are identical: the answer and what each lent buffer holds at the end. `Post` is the
+-- contract itself, as the check reads it from the source: where a clause of it is dropped or weakened, the theorem fails. Assumes nothing.
+-- (tools/determined.py writes this file.)
 use mathlib.Core.Path.{_≡_, sym, _∙_}
 use contract.Lifetimes.{Lfts}
 use denote.Ref.{now}
 use borrow.Fn.World.{ArgsD, ResD}
 use borrow.Fn.Kinds.{endedOf}
 use denote.Triple.Clauses.{AtExit}
-use Rattle.analysis.proofs.analyse as analyseCall
-use Rattle.analysis.proofs.analyse.Kinds as analyseCallKinds
-use Rattle.analysis.proofs.analyse.Reads as analyseCallReads
+use Rattle.analysis.proofs.deviations.deviations as deviations
+use Rattle.analysis.proofs.deviations.deviations.Kinds as deviations-kinds
+use Rattle.analysis.proofs.deviations.deviations.Reads as deviations-reads
+use Rattle.analysis.proofs.deviations.deviation_of as deviation-of
+use Rattle.analysis.proofs.deviations.deviation_of.Kinds as deviation-of-kinds
+use Rattle.analysis.proofs.deviations.deviation_of.Reads as deviation-of-reads
+use Rattle.analysis.proofs.spread.q as q
+use Rattle.analysis.proofs.spread.q.Kinds as q-kinds
+use Rattle.analysis.proofs.spread.q.Reads as q-reads
+use Rattle.analysis.proofs.spread.spread as spread
+use Rattle.analysis.proofs.spread.spread.Kinds as spread-kinds
+use Rattle.analysis.proofs.spread.spread.Reads as spread-reads
+use Rattle.analysis.proofs.values.values as values
+use Rattle.analysis.proofs.values.values.Kinds as values-kinds
+use Rattle.analysis.proofs.values.values.Reads as values-reads
+use Rattle.analysis.proofs.values.value_of as value-of
+use Rattle.analysis.proofs.values.value_of.Kinds as value-of-kinds
+use Rattle.analysis.proofs.values.value_of.Reads as value-of-reads
+use Rattle.analysis.proofs.whole.analyse as analyse
+use Rattle.analysis.proofs.whole.analyse.Kinds as analyse-kinds
+use Rattle.analysis.proofs.whole.analyse.Reads as analyse-reads
 
--- the same answer, and the same words, values and deviations after
-module _ (κs : Lfts 5) (a : ArgsD analyseCall.signature κs) (r q : ResD analyseCall.signature κs) (s t : AtExit (endedOf 5 analyseCallKinds.ps analyseCallKinds.r) κs) where
-  pub analyse-determined : analyseCallReads.Post κs a r s → analyseCallReads.Post κs a q t → (r ≡ q) × (now (s .1 .1 .1 .1 .1 .0) ≡ now (t .1 .1 .1 .1 .1 .0)) × (now (s .1 .1 .1 .1 .1 .1 .0) ≡ now (t .1 .1 .1 .1 .1 .1 .0)) × (now (s .1 .1 .1 .1 .1 .1 .1 .0) ≡ now (t .1 .1 .1 .1 .1 .1 .1 .0))
+-- `deviations`: the answer, `deviations`
+module _ (κs : Lfts 3) (a : ArgsD deviations.signature κs) (r q : ResD deviations.signature κs)
+    (s t : AtExit (endedOf 3 deviations-kinds.ps deviations-kinds.r) κs) where
+  pub deviations-determined : deviations-reads.Post κs a r s → deviations-reads.Post κs a q t →
+      (r ≡ q)
+      × (now (s .1 .1 .1 .0) ≡ now (t .1 .1 .1 .0))
+  deviations-determined p e = (p .0 ∙ sym (e .0), p .1 ∙ sym (e .1))
+
+-- `deviation_of`: the answer
+module _ (κs : Lfts 2) (a : ArgsD deviation-of.signature κs) (r q : ResD deviation-of.signature κs)
+    (s t : AtExit (endedOf 2 deviation-of-kinds.ps deviation-of-kinds.r) κs) where
+  pub deviation-of-determined : deviation-of-reads.Post κs a r s → deviation-of-reads.Post κs a q t →
+      r ≡ q
+  deviation-of-determined p e = p ∙ sym e
+
+-- `q`: the answer
+module _ (κs : Lfts 2) (a : ArgsD q.signature κs) (r q : ResD q.signature κs)
+    (s t : AtExit (endedOf 2 q-kinds.ps q-kinds.r) κs) where
+  pub q-determined : q-reads.Post κs a r s → q-reads.Post κs a q t →
+      r ≡ q
+  q-determined p e = p ∙ sym e
+
+-- `spread`: the answer
+module _ (κs : Lfts 2) (a : ArgsD spread.signature κs) (r q : ResD spread.signature κs)
+    (s t : AtExit (endedOf 2 spread-kinds.ps spread-kinds.r) κs) where
+  pub spread-determined : spread-reads.Post κs a r s → spread-reads.Post κs a q t →
+      r ≡ q
+  spread-determined p e = p ∙ sym e
+
+-- `values`: the answer, `values`
+module _ (κs : Lfts 3) (a : ArgsD values.signature κs) (r q : ResD values.signature κs)
+    (s t : AtExit (endedOf 3 values-kinds.ps values-kinds.r) κs) where
+  pub values-determined : values-reads.Post κs a r s → values-reads.Post κs a q t →
+      (r ≡ q)
+      × (now (s .1 .1 .1 .1 .1 .0) ≡ now (t .1 .1 .1 .1 .1 .0))
+  values-determined p e = (p .0 ∙ sym (e .0), p .1 ∙ sym (e .1))
+
+-- `value_of`: the answer
+module _ (κs : Lfts 2) (a : ArgsD value-of.signature κs) (r q : ResD value-of.signature κs)
+    (s t : AtExit (endedOf 2 value-of-kinds.ps value-of-kinds.r) κs) where
+  pub value-of-determined : value-of-reads.Post κs a r s → value-of-reads.Post κs a q t →
+      r ≡ q
+  value-of-determined p e = p ∙ sym e
+
+-- `analyse`: the answer, `words`, `values`, `deviations`
+module _ (κs : Lfts 5) (a : ArgsD analyse.signature κs) (r q : ResD analyse.signature κs)
+    (s t : AtExit (endedOf 5 analyse-kinds.ps analyse-kinds.r) κs) where
+  pub analyse-determined : analyse-reads.Post κs a r s → analyse-reads.Post κs a q t →
+      (r ≡ q)
+      × (now (s .1 .1 .1 .1 .1 .0) ≡ now (t .1 .1 .1 .1 .1 .0))
+      × (now (s .1 .1 .1 .1 .1 .1 .0) ≡ now (t .1 .1 .1 .1 .1 .1 .0))
+      × (now (s .1 .1 .1 .1 .1 .1 .1 .0) ≡ now (t .1 .1 .1 .1 .1 .1 .1 .0))
   analyse-determined p e = (p .0 ∙ sym (e .0), p .1 .0 ∙ sym (e .1 .0), p .1 .1 .0 ∙ sym (e .1 .1 .0), p .1 .1 .1 ∙ sym (e .1 .1 .1))

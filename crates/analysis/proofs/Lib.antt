@@ -1,4 +1,4 @@
--- The laws of what is worked out from totals, and of an accepted job.
+-- What is worked out from totals and words, and that it is the definitions' own; and that each promise determines its outcome.
 pub mod Working
 pub mod Accepting
 pub mod Determined

@@ -26,12 +26,13 @@ use Rattle.algebra.proofs.Bounds.{abs-*-le, abs-sub, abs-sum}
 use Rattle.records.specs.declared.Head.{Head}
 use Rattle.meaning.specs.Design.{objects, blocks}
 use Rattle.meaning.specs.Analysis.{reading, member, members, restrained, numerator}
-use Rattle.words.specs.Bits.{bit, lowestOf, withoutLowest}
+use Rattle.words.specs.Bits.{lowestOf, withoutLowest}
 use Rattle.words.proofs.Bits.{bit-most, bit-none, bit-past, one-below, once, once-same, once-other}
 use Rattle.words.proofs.Walk.{Left, left-all, left-rest, lowest-lt, rest-bit}
 use Rattle.weighing.specs.Developed.{signIn, totalIn}
 use Rattle.weighing.proofs.Developing.{filled-at, filled-most}
 use Rattle.weighing.proofs.Refusing.{Weighable}
+use Rattle.laws.specs.Limits.{totalLimit}
 use Rattle.analysis.specs.Worked.{totalAt, Totalled, Held, overSet, numeratorIn, fittedIn, deviationIn}
 
 -- ---- over any word
@@ -42,9 +43,9 @@ module _ (f : ℕ → ℤ) where
   unfolding restrained
   set-rest w p h =
       sum-ext 64 _ _ (λ i. ap (λ (b : ℕ). pos b *ℤ f i) (sym (rest-bit w p h i))
-      ∙ ring₃ (λ a b t. (a ⊕ b) ⊗ t ≐ b ⊗ t ⊕ a ⊗ t) (pos (bit (withoutLowest w) i)) (pos (once i (lowestOf w))) (f i) refl)
-      ∙ sum-add 64 (λ i. pos (once i (lowestOf w)) *ℤ f i) (λ i. pos (bit (withoutLowest w) i) *ℤ f i)
-      ∙ ap (λ (z : ℤ). z +ℤ sum 64 (λ i. pos (bit (withoutLowest w) i) *ℤ f i)) one
+      ∙ ring₃ (λ a b t. (a ⊕ b) ⊗ t ≐ b ⊗ t ⊕ a ⊗ t) (pos (member (withoutLowest w) i)) (pos (once i (lowestOf w))) (f i) refl)
+      ∙ sum-add 64 (λ i. pos (once i (lowestOf w)) *ℤ f i) (λ i. pos (member (withoutLowest w) i) *ℤ f i)
+      ∙ ap (λ (z : ℤ). z +ℤ sum 64 (λ i. pos (member (withoutLowest w) i) *ℤ f i)) one
     where
       other : (j : ℕ) → j < 64 → (lowestOf w ≡ j → ⊥) → pos (once j (lowestOf w)) *ℤ f j ≡ pos 0
       other j l n = ap (λ (b : ℕ). pos b *ℤ f j) (once-other j (lowestOf w) (λ e. n (sym e))) ∙ ring₁ (λ t. # 0 ⊗ t ≐ # 0) (f j) refl
@@ -67,22 +68,24 @@ module _ (f : ℕ → ℤ) where
       ap (λ (n : ℕ). sum n (λ i. pos (member w i) *ℤ f i)) all
       ∙ sum-split v (64 - v) (λ i. pos (member w i) *ℤ f i)
       ∙ ap (λ (z : ℤ). sum v (λ i. pos (member w i) *ℤ f i) +ℤ z)
-      (sum-cong (64 - v) _ (λ i. pos 0) (λ i a. ap (λ (b : ℕ). pos b *ℤ f (v + i)) (bit-past v w (v + i) h (omega arith)) ∙ ring₁ (λ t. # 0 ⊗ t ≐ # 0) (f (v + i)) refl) ∙ sum-zero (64 - v))
+      (sum-cong (64 - v) _ (λ i. pos 0)
+      (λ i a. ap (λ (b : ℕ). pos b *ℤ f (v + i)) (bit-past v w (v + i) h (omega arith)) ∙ ring₁ (λ t. # 0 ⊗ t ≐ # 0) (f (v + i)) refl) ∙ sum-zero (64 - v))
       ∙ ring₁ (λ t. t ⊕ # 0 ≐ t) (sum v (λ i. pos (member w i) *ℤ f i)) refl
 
 -- ---- over a room of totals
 
 module _ (totals : List ℤ) (w : ℕ) (r : Held totals w) where
   -- each object adds at most a total; so over a part of the word
-  pub part-small : (rest : ℕ) → ((i : ℕ) → bit rest i ≡ 1 → bit w i ≡ 1) → natAbs (overSet rest (totalAt totals)) ≤ 16640000000
+  pub part-small : (rest : ℕ) → ((i : ℕ) → member rest i ≡ 1 → member w i ≡ 1) → natAbs (overSet rest (totalAt totals)) ≤ 16640000000
   unfolding restrained
-  part-small rest part = omega (arith, abs-sum 64 260000000 (λ i. pos (member rest i) *ℤ totalAt totals i) (λ i l. by i (ℕ-discrete (bit rest i) 1)))
+  part-small rest part = omega (arith, abs-sum 64 totalLimit (λ i. pos (member rest i) *ℤ totalAt totals i) (λ i l. by i (ℕ-discrete (member rest i) 1)))
     where
-      by : (i : ℕ) → Dec (bit rest i ≡ 1) → natAbs (pos (member rest i) *ℤ totalAt totals i) ≤ 260000000
-      by i (yes e) = le-trans (abs-*-le (pos (member rest i)) (totalAt totals i) 1 260000000 (bit-most rest i) (r .held i (part i e) .1)) (omega arith)
+      by : (i : ℕ) → Dec (member rest i ≡ 1) → natAbs (pos (member rest i) *ℤ totalAt totals i) ≤ totalLimit
+      by i (yes e) = le-trans (abs-*-le (pos (member rest i)) (totalAt totals i) 1 totalLimit (bit-most rest i) (r .held i (part i e) .1)) (omega arith)
       by i (no n) =
-          let none : bit rest i ≡ 0 = omega (arith, n, bit-most rest i) in
-          subst (λ (z : ℤ). natAbs z ≤ 260000000) (sym (ap (λ (b : ℕ). pos b *ℤ totalAt totals i) none ∙ ring₁ (λ t. # 0 ⊗ t ≐ # 0) (totalAt totals i) refl)) (omega arith)
+          let none : member rest i ≡ 0 = omega (arith, n, bit-most rest i) in
+          subst (λ (z : ℤ). natAbs z ≤ totalLimit)
+          (sym (ap (λ (b : ℕ). pos b *ℤ totalAt totals i) none ∙ ring₁ (λ t. # 0 ⊗ t ≐ # 0) (totalAt totals i) refl)) (omega arith)
 
   -- over all of it
   pub set-small : natAbs (overSet w (totalAt totals)) ≤ 16640000000
@@ -116,8 +119,15 @@ module _ (w : ℕ) (totals : List ℤ) where
   -- what was added is the difference of two sums
   pub so-far-small : (rest : ℕ) (so-far : ℤ) → Held totals w → SetWalk w totals rest so-far → natAbs so-far ≤ 33280000000
   so-far-small rest so-far r k =
-      let taken : so-far ≡ overSet w (totalAt totals) -ℤ overSet rest (totalAt totals) = comb₁ (pos 1) (k .sums) (ring₃ (λ s a b. s ⊝ (b ⊝ a) ≐ # 1 ⊗ (s ⊕ a ⊝ b)) so-far (overSet rest (totalAt totals)) (overSet w (totalAt totals)) refl) in
-      subst (λ (z : ℤ). natAbs z ≤ 33280000000) (sym taken) (omega (arith, abs-sub (overSet w (totalAt totals)) (overSet rest (totalAt totals)), set-small totals w r, part-small totals w r rest (k .left .part)))
+      let taken : so-far ≡ overSet w (totalAt totals) -ℤ overSet rest (totalAt totals) =
+      comb₁ (pos 1) (k .sums) (ring₃ (λ s a b. s ⊝ (b ⊝ a) ≐ # 1 ⊗ (s ⊕ a ⊝ b)) so-far (overSet rest (totalAt totals)) (overSet w (totalAt totals)) refl) in
+      subst (λ (z : ℤ). natAbs z ≤ 33280000000) (sym taken)
+      (omega (
+        arith,
+        abs-sub (overSet w (totalAt totals)) (overSet rest (totalAt totals)),
+        set-small totals w r,
+        part-small totals w r rest (k .left .part),
+      ))
 
 -- ---- the words of a block
 
@@ -131,7 +141,8 @@ unfolding restrained
 set-agrees f g v w l h e = set-within f v w l h ∙ sum-cong v _ _ (λ i m. ap (λ (t : ℤ). pos (member w i) *ℤ t) (e i m)) ∙ sym (set-within g v w l h)
 
 -- each side of a block is at most that of 64 totals
-pub fitted-small : (words : List ℕ) (totals : List ℤ) (k : ℕ) → Held totals (getD words (2 * k) 0) → Held totals (getD words (2 * k + 1) 0) → natAbs (fittedIn words (totalAt totals) k) ≤ 33280000000
+pub fitted-small : (words : List ℕ) (totals : List ℤ) (k : ℕ) → Held totals (getD words (2 * k) 0) → Held totals (getD words (2 * k + 1) 0) →
+    natAbs (fittedIn words (totalAt totals) k) ≤ 33280000000
 fitted-small words totals k a b =
     le-trans (abs-sub (overSet (getD words (2 * k) 0) (totalAt totals)) (overSet (getD words (2 * k + 1) 0) (totalAt totals)))
     (omega (arith, set-small totals (getD words (2 * k) 0) a, set-small totals (getD words (2 * k + 1) 0) b))
@@ -143,7 +154,8 @@ module _ (words : List ℕ) (k v : ℕ) (l : v ≤ 64) (a : getD words (2 * k) 0
   fitted-signs T =
       ap₂ _-ℤ_ (set-within T v (getD words (2 * k) 0) l a) (set-within T v (getD words (2 * k + 1) 0) l b)
       ∙ sym (sum-sub v _ _)
-      ∙ sum-ext v _ _ (λ i. ring₃ (λ l r t. l ⊗ t ⊝ r ⊗ t ≐ (l ⊝ r) ⊗ t) (pos (bit (getD words (2 * k) 0) i)) (pos (bit (getD words (2 * k + 1) 0) i)) (T i) refl)
+      ∙ sum-ext v _ _ (λ i. ring₃ (λ l r t. l ⊗ t ⊝ r ⊗ t ≐ (l ⊝ r) ⊗ t) (pos (member (getD words (2 * k) 0) i))
+      (pos (member (getD words (2 * k + 1) 0) i)) (T i) refl)
 
   -- two fits agree where their totals do
   pub fitted-agrees : (f g : ℕ → ℤ) → ((i : ℕ) → i < v → f i ≡ g i) → fittedIn words f k ≡ fittedIn words g k
@@ -151,7 +163,8 @@ module _ (words : List ℕ) (k v : ℕ) (l : v ≤ 64) (a : getD words (2 * k) 0
 
 -- ---- a room that was filled with the totals over words
 
-module _ (h : Head) (y : List ℤ) (words : List ℕ) (room totals : List ℤ) (s : Weighable h words y (length room)) (e : totals ≡ over (objects h) (totalIn words y (blocks h)) room) where
+module _ (h : Head) (y : List ℤ) (words : List ℕ) (room totals : List ℤ) (s : Weighable h words y (length room))
+    (e : totals ≡ over (objects h) (totalIn words y (blocks h)) room) where
   abbrev T : ℕ → ℤ
   T = totalIn words y (blocks h)
 
@@ -172,10 +185,12 @@ module _ (h : Head) (y : List ℤ) (words : List ℕ) (room totals : List ℤ) (
   pub numerators-agree : (w vb : ℕ) (M : ℤ) (values : List ℤ) → w < 2 ^ objects h →
       over (objects h) (numeratorIn (totalAt totals) (objects h) w vb M) values ≡ over (objects h) (numeratorIn T (objects h) w vb M) values
   numerators-agree w vb M values g =
-      over-ext (objects h) _ _ values (λ i l. ap₂ (λ (t S : ℤ). numerator (members (objects h) w) t S vb M) (agrees i l) (set-agrees (totalAt totals) T (objects h) w few g agrees))
+      over-ext (objects h) _ _ values
+      (λ i l. ap₂ (λ (t S : ℤ). numerator (members (objects h) w) t S vb M) (agrees i l) (set-agrees (totalAt totals) T (objects h) w few g agrees))
 
   -- and so are the deviation numerators
-  pub deviations-agree : (vb : ℕ) (deviations : List ℤ) → over (blocks h) (deviationIn words y (totalAt totals) vb) deviations ≡ over (blocks h) (deviationIn words y T vb) deviations
+  pub deviations-agree : (vb : ℕ) (deviations : List ℤ) →
+      over (blocks h) (deviationIn words y (totalAt totals) vb) deviations ≡ over (blocks h) (deviationIn words y T vb) deviations
   deviations-agree vb deviations =
       over-ext (blocks h) _ _ deviations (λ k l. ap (λ (F : ℤ). pos vb *ℤ reading y k -ℤ F)
       (fitted-agrees words k (objects h) few (s .within .below (2 * k) (omega arith)) (s .within .below (2 * k + 1) (omega arith)) (totalAt totals) T agrees))

@@ -1,2 +1,2 @@
--- What the private functions of this crate speak of, beside the definitions of the base.
+-- What is worked out from totals and words.
 pub mod Worked

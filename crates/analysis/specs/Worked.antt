@@ -5,17 +5,18 @@ use mathlib.Core.List.{List}
 use lib.ListN.{getD}
 use lib.IntN.{ℤ, pos, _-ℤ_, _*ℤ_, natAbs}
 use Rattle.algebra.specs.Ranges.{sumℕ}
+use Rattle.algebra.specs.Buffers.{over}
 use Rattle.records.specs.declared.Head.{Head}
 use Rattle.records.specs.declared.Parameters.{Parameters}
 use Rattle.records.specs.declared.Solved.{Solved}
 use Rattle.meaning.specs.Design.{objects, blocks}
-use Rattle.meaning.specs.Analysis.{reading, members, restrained, numerator, denominator, freedom}
-use Rattle.meaning.specs.Refusals.{accepted}
+use Rattle.meaning.specs.Analysis.{reading, members, restrained, numerator, denominator, freedom, member}
+use Rattle.meaning.specs.Refusals.{accepted, sumLimit}
 use Rattle.laws.specs.Fits.{Fits}
-use Rattle.spread.specs.Hundredths.{spreadingFrom}
-use Rattle.words.specs.Bits.{bit}
-use Rattle.weighable.specs.Verdicts.{weighVerdict}
-use Rattle.weighing.specs.Developed.{squaredTotalsIn}
+use Rattle.arithmetic.specs.Hundredths.{spreadingFrom}
+use Rattle.weighing.specs.Verdicts.{weighVerdict}
+use Rattle.laws.specs.Limits.{totalLimit}
+use Rattle.weighing.specs.Developed.{totalIn, squaredTotalsIn}
 
 -- the total that stands at place i
 abbrev pub totalAt : List ℤ → ℕ → ℤ
@@ -28,11 +29,11 @@ squaresIn y b = sumℕ b (λ k. natAbs (reading y k) * natAbs (reading y k))
 -- v totals, each in its range
 pub record Totalled (totals : List ℤ) (v : ℕ) : Type 0 where
   pub few : v ≤ 50
-  pub most : (i : ℕ) → i < v → natAbs (totalAt totals i) ≤ 260000000
+  pub most : (i : ℕ) → i < v → natAbs (totalAt totals i) ≤ totalLimit
 
 -- every object of the word w has its place among 50 totals, and its total is in range
 pub record Held (totals : List ℤ) (w : ℕ) : Type 0 where
-  pub held : (i : ℕ) → bit w i ≡ 1 → (i < 50) × (natAbs (totalAt totals i) ≤ 260000000)
+  pub held : (i : ℕ) → member w i ≡ 1 → (i < 50) × (natAbs (totalAt totals i) ≤ totalLimit)
 
 -- the totals T over the objects of the word w, added
 abbrev pub overSet : ℕ → (ℕ → ℤ) → ℤ
@@ -68,7 +69,7 @@ pub record Workable (h : Head) (y : List ℤ) (w : ℕ) (M : ℤ) (p : Parameter
   pub less : p .l1 ≤ p .l2
   pub scale-most : scaleIn p ≤ 2600
   pub set-inside : w < 2 ^ objects h
-  pub sum-most : natAbs M ≤ 1000000000
+  pub sum-most : natAbs M ≤ sumLimit
 
 -- its record
 abbrev pub workedOut : Head → List ℤ → ℕ → Parameters → List ℕ → Solved
@@ -78,3 +79,10 @@ workedOut h y w p words = record {
   denominator = denominator (members (objects h) w) (scaleIn p);
   spreading = spreadingFrom (scaleIn p * squaresIn y (blocks h) - squaredTotalsIn words y (blocks h) (objects h)) (scaleIn p) (freedom h);
 }
+
+-- the room of the values after, and that of the deviations
+abbrev pub valuesIn : Head → List ℤ → ℕ → ℤ → Parameters → List ℕ → List ℤ → List ℤ
+valuesIn h y w M p words values = over (objects h) (numeratorIn (totalIn words y (blocks h)) (objects h) w (scaleIn p) M) values
+
+abbrev pub deviationsIn : Head → List ℤ → Parameters → List ℕ → List ℤ → List ℤ
+deviationsIn h y p words deviations = over (blocks h) (deviationIn words y (totalIn words y (blocks h)) (scaleIn p)) deviations

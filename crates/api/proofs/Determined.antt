@@ -1,34 +1,187 @@
--- Any two outcomes that keep the promise of an exported function are identical. `Post` is the contract itself, as the check reads it from the source:
--- where a clause of it is dropped or weakened, the theorem fails. Assumes nothing.
+-- Any two outcomes that keep the promise of a public function are identical: the answer and what each lent buffer holds at the end. `Post` is the
+-- contract itself, as the check reads it from the source: where a clause of it is dropped or weakened, the theorem fails. Assumes nothing.
+-- (tools/determined.py writes this file.)
 use mathlib.Core.Path.{_≡_, sym, _∙_}
 use contract.Lifetimes.{Lfts}
 use denote.Ref.{now}
 use borrow.Fn.World.{ArgsD, ResD}
 use borrow.Fn.Kinds.{endedOf}
 use denote.Triple.Clauses.{AtExit}
-use Rattle.api.proofs.bench_judge as judge
-use Rattle.api.proofs.bench_judge.Kinds as judgeKinds
-use Rattle.api.proofs.bench_judge.Reads as judgeReads
-use Rattle.api.proofs.bench_solve as solve
-use Rattle.api.proofs.bench_solve.Kinds as solveKinds
-use Rattle.api.proofs.bench_solve.Reads as solveReads
-use Rattle.api.proofs.bench_write as write
-use Rattle.api.proofs.bench_write.Kinds as writeKinds
-use Rattle.api.proofs.bench_write.Reads as writeReads
-use Rattle.api.proofs.bench_listing as listing
-use Rattle.api.proofs.bench_listing.Kinds as listingKinds
-use Rattle.api.proofs.bench_listing.Reads as listingReads
+use Rattle.api.proofs.designs.bench_pairs_refusal as bench-pairs-refusal
+use Rattle.api.proofs.designs.bench_pairs_refusal.Kinds as bench-pairs-refusal-kinds
+use Rattle.api.proofs.designs.bench_pairs_refusal.Reads as bench-pairs-refusal-reads
+use Rattle.api.proofs.designs.bench_develop as bench-develop
+use Rattle.api.proofs.designs.bench_develop.Kinds as bench-develop-kinds
+use Rattle.api.proofs.designs.bench_develop.Reads as bench-develop-reads
+use Rattle.api.proofs.designs.bench_develop_initial as bench-develop-initial
+use Rattle.api.proofs.designs.bench_develop_initial.Kinds as bench-develop-initial-kinds
+use Rattle.api.proofs.designs.bench_develop_initial.Reads as bench-develop-initial-reads
+use Rattle.api.proofs.designs.bench_company as bench-company
+use Rattle.api.proofs.designs.bench_company.Kinds as bench-company-kinds
+use Rattle.api.proofs.designs.bench_company.Reads as bench-company-reads
+use Rattle.api.proofs.designs.bench_opposition as bench-opposition
+use Rattle.api.proofs.designs.bench_opposition.Kinds as bench-opposition-kinds
+use Rattle.api.proofs.designs.bench_opposition.Reads as bench-opposition-reads
+use Rattle.api.proofs.designs.bench_judge as bench-judge
+use Rattle.api.proofs.designs.bench_judge.Kinds as bench-judge-kinds
+use Rattle.api.proofs.designs.bench_judge.Reads as bench-judge-reads
+use Rattle.api.proofs.deviations.bench_deviations as bench-deviations
+use Rattle.api.proofs.deviations.bench_deviations.Kinds as bench-deviations-kinds
+use Rattle.api.proofs.deviations.bench_deviations.Reads as bench-deviations-reads
+use Rattle.api.proofs.deviations.bench_deviation_of as bench-deviation-of
+use Rattle.api.proofs.deviations.bench_deviation_of.Kinds as bench-deviation-of-kinds
+use Rattle.api.proofs.deviations.bench_deviation_of.Reads as bench-deviation-of-reads
+use Rattle.api.proofs.deviations.bench_q as bench-q
+use Rattle.api.proofs.deviations.bench_q.Kinds as bench-q-kinds
+use Rattle.api.proofs.deviations.bench_q.Reads as bench-q-reads
+use Rattle.api.proofs.deviations.bench_spread as bench-spread
+use Rattle.api.proofs.deviations.bench_spread.Kinds as bench-spread-kinds
+use Rattle.api.proofs.deviations.bench_spread.Reads as bench-spread-reads
+use Rattle.api.proofs.files.bench_field_at as bench-field-at
+use Rattle.api.proofs.files.bench_field_at.Kinds as bench-field-at-kinds
+use Rattle.api.proofs.files.bench_field_at.Reads as bench-field-at-reads
+use Rattle.api.proofs.files.bench_read as bench-read
+use Rattle.api.proofs.files.bench_read.Kinds as bench-read-kinds
+use Rattle.api.proofs.files.bench_read.Reads as bench-read-reads
+use Rattle.api.proofs.files.bench_solve as bench-solve
+use Rattle.api.proofs.files.bench_solve.Kinds as bench-solve-kinds
+use Rattle.api.proofs.files.bench_solve.Reads as bench-solve-reads
+use Rattle.api.proofs.files.bench_write as bench-write
+use Rattle.api.proofs.files.bench_write.Kinds as bench-write-kinds
+use Rattle.api.proofs.files.bench_write.Reads as bench-write-reads
+use Rattle.api.proofs.files.bench_listing as bench-listing
+use Rattle.api.proofs.files.bench_listing.Kinds as bench-listing-kinds
+use Rattle.api.proofs.files.bench_listing.Reads as bench-listing-reads
+use Rattle.api.proofs.jobs.bench_refusal as bench-refusal
+use Rattle.api.proofs.jobs.bench_refusal.Kinds as bench-refusal-kinds
+use Rattle.api.proofs.jobs.bench_refusal.Reads as bench-refusal-reads
+use Rattle.api.proofs.jobs.bench_values as bench-values
+use Rattle.api.proofs.jobs.bench_values.Kinds as bench-values-kinds
+use Rattle.api.proofs.jobs.bench_values.Reads as bench-values-reads
+use Rattle.api.proofs.jobs.bench_value_of as bench-value-of
+use Rattle.api.proofs.jobs.bench_value_of.Kinds as bench-value-of-kinds
+use Rattle.api.proofs.jobs.bench_value_of.Reads as bench-value-of-reads
+use Rattle.api.proofs.jobs.bench_analyse as bench-analyse
+use Rattle.api.proofs.jobs.bench_analyse.Kinds as bench-analyse-kinds
+use Rattle.api.proofs.jobs.bench_analyse.Reads as bench-analyse-reads
+use Rattle.api.proofs.totals.bench_total as bench-total
+use Rattle.api.proofs.totals.bench_total.Kinds as bench-total-kinds
+use Rattle.api.proofs.totals.bench_total.Reads as bench-total-reads
+use Rattle.api.proofs.totals.bench_sum_of_squares as bench-sum-of-squares
+use Rattle.api.proofs.totals.bench_sum_of_squares.Kinds as bench-sum-of-squares-kinds
+use Rattle.api.proofs.totals.bench_sum_of_squares.Reads as bench-sum-of-squares-reads
+use Rattle.api.proofs.totals.bench_sum_of_squared_totals as bench-sum-of-squared-totals
+use Rattle.api.proofs.totals.bench_sum_of_squared_totals.Kinds as bench-sum-of-squared-totals-kinds
+use Rattle.api.proofs.totals.bench_sum_of_squared_totals.Reads as bench-sum-of-squared-totals-reads
 
--- the same number, and the same answer after
-module _ (κs : Lfts 2) (a : ArgsD judge.signature κs) (r q : ResD judge.signature κs) (s t : AtExit (endedOf 2 judgeKinds.ps judgeKinds.r) κs) where
-  pub bench-judge-determined : judgeReads.Post κs a r s → judgeReads.Post κs a q t → (r ≡ q) × (now (s .1 .1 .1 .1 .1 .0) ≡ now (t .1 .1 .1 .1 .1 .0))
+-- `bench_pairs_refusal`: the answer
+module _ (κs : Lfts 1) (a : ArgsD bench-pairs-refusal.signature κs) (r q : ResD bench-pairs-refusal.signature κs)
+    (s t : AtExit (endedOf 1 bench-pairs-refusal-kinds.ps bench-pairs-refusal-kinds.r) κs) where
+  pub bench-pairs-refusal-determined : bench-pairs-refusal-reads.Post κs a r s → bench-pairs-refusal-reads.Post κs a q t →
+      r ≡ q
+  bench-pairs-refusal-determined p e = p ∙ sym e
+
+-- `bench_develop`: the answer, `words`
+module _ (κs : Lfts 2) (a : ArgsD bench-develop.signature κs) (r q : ResD bench-develop.signature κs)
+    (s t : AtExit (endedOf 2 bench-develop-kinds.ps bench-develop-kinds.r) κs) where
+  pub bench-develop-determined : bench-develop-reads.Post κs a r s → bench-develop-reads.Post κs a q t →
+      (r ≡ q)
+      × (now (s .1 .1 .1 .1 .1 .0) ≡ now (t .1 .1 .1 .1 .1 .0))
+  bench-develop-determined p e = (p .0 ∙ sym (e .0), p .1 ∙ sym (e .1))
+
+-- `bench_develop_initial`: the answer, `words`
+module _ (κs : Lfts 2) (a : ArgsD bench-develop-initial.signature κs) (r q : ResD bench-develop-initial.signature κs)
+    (s t : AtExit (endedOf 2 bench-develop-initial-kinds.ps bench-develop-initial-kinds.r) κs) where
+  pub bench-develop-initial-determined : bench-develop-initial-reads.Post κs a r s → bench-develop-initial-reads.Post κs a q t →
+      (r ≡ q)
+      × (now (s .1 .1 .1 .1 .1 .1 .0) ≡ now (t .1 .1 .1 .1 .1 .1 .0))
+  bench-develop-initial-determined p e = (p .0 ∙ sym (e .0), p .1 ∙ sym (e .1))
+
+-- `bench_company`: the answer, `table`
+module _ (κs : Lfts 2) (a : ArgsD bench-company.signature κs) (r q : ResD bench-company.signature κs)
+    (s t : AtExit (endedOf 2 bench-company-kinds.ps bench-company-kinds.r) κs) where
+  pub bench-company-determined : bench-company-reads.Post κs a r s → bench-company-reads.Post κs a q t →
+      (r ≡ q)
+      × (now (s .1 .1 .1 .1 .1 .0) ≡ now (t .1 .1 .1 .1 .1 .0))
+  bench-company-determined p e = (p .0 ∙ sym (e .0), p .1 ∙ sym (e .1))
+
+-- `bench_opposition`: the answer, `table`
+module _ (κs : Lfts 2) (a : ArgsD bench-opposition.signature κs) (r q : ResD bench-opposition.signature κs)
+    (s t : AtExit (endedOf 2 bench-opposition-kinds.ps bench-opposition-kinds.r) κs) where
+  pub bench-opposition-determined : bench-opposition-reads.Post κs a r s → bench-opposition-reads.Post κs a q t →
+      (r ≡ q)
+      × (now (s .1 .1 .1 .1 .1 .0) ≡ now (t .1 .1 .1 .1 .1 .0))
+  bench-opposition-determined p e = (p .0 ∙ sym (e .0), p .1 ∙ sym (e .1))
+
+-- `bench_judge`: the answer, `answer`
+module _ (κs : Lfts 2) (a : ArgsD bench-judge.signature κs) (r q : ResD bench-judge.signature κs)
+    (s t : AtExit (endedOf 2 bench-judge-kinds.ps bench-judge-kinds.r) κs) where
+  pub bench-judge-determined : bench-judge-reads.Post κs a r s → bench-judge-reads.Post κs a q t →
+      (r ≡ q)
+      × (now (s .1 .1 .1 .1 .1 .0) ≡ now (t .1 .1 .1 .1 .1 .0))
   bench-judge-determined p e = (p .0 ∙ sym (e .0), p .1 ∙ sym (e .1))
 
--- the same number, and the same words, values, deviations, answer and spread after
-module _ (κs : Lfts 6) (a : ArgsD solve.signature κs) (r q : ResD solve.signature κs) (s t : AtExit (endedOf 6 solveKinds.ps solveKinds.r) κs) where
-  pub bench-solve-determined : solveReads.Post κs a r s → solveReads.Post κs a q t
-      → (r ≡ q) × (now (s .1 .0) ≡ now (t .1 .0)) × (now (s .1 .1 .0) ≡ now (t .1 .1 .0)) × (now (s .1 .1 .1 .0) ≡ now (t .1 .1 .1 .0))
-      × (now (s .1 .1 .1 .1 .0) ≡ now (t .1 .1 .1 .1 .0)) × (now (s .1 .1 .1 .1 .1 .0) ≡ now (t .1 .1 .1 .1 .1 .0))
+-- `bench_deviations`: the answer, `deviations`
+module _ (κs : Lfts 3) (a : ArgsD bench-deviations.signature κs) (r q : ResD bench-deviations.signature κs)
+    (s t : AtExit (endedOf 3 bench-deviations-kinds.ps bench-deviations-kinds.r) κs) where
+  pub bench-deviations-determined : bench-deviations-reads.Post κs a r s → bench-deviations-reads.Post κs a q t →
+      (r ≡ q)
+      × (now (s .1 .1 .1 .1 .1 .1 .0) ≡ now (t .1 .1 .1 .1 .1 .1 .0))
+  bench-deviations-determined p e = (p .0 ∙ sym (e .0), p .1 ∙ sym (e .1))
+
+-- `bench_deviation_of`: the answer, `signed`, `answer`
+module _ (κs : Lfts 4) (a : ArgsD bench-deviation-of.signature κs) (r q : ResD bench-deviation-of.signature κs)
+    (s t : AtExit (endedOf 4 bench-deviation-of-kinds.ps bench-deviation-of-kinds.r) κs) where
+  pub bench-deviation-of-determined : bench-deviation-of-reads.Post κs a r s → bench-deviation-of-reads.Post κs a q t →
+      (r ≡ q)
+      × (now (s .1 .1 .1 .1 .1 .1 .1 .0) ≡ now (t .1 .1 .1 .1 .1 .1 .1 .0))
+      × (now (s .1 .1 .1 .1 .1 .1 .1 .1 .0) ≡ now (t .1 .1 .1 .1 .1 .1 .1 .1 .0))
+  bench-deviation-of-determined p e = (p .0 ∙ sym (e .0), p .1 .0 ∙ sym (e .1 .0), p .1 .1 ∙ sym (e .1 .1))
+
+-- `bench_q`: the answer, `answer`
+module _ (κs : Lfts 3) (a : ArgsD bench-q.signature κs) (r q : ResD bench-q.signature κs)
+    (s t : AtExit (endedOf 3 bench-q-kinds.ps bench-q-kinds.r) κs) where
+  pub bench-q-determined : bench-q-reads.Post κs a r s → bench-q-reads.Post κs a q t →
+      (r ≡ q)
+      × (now (s .1 .1 .1 .1 .1 .1 .0) ≡ now (t .1 .1 .1 .1 .1 .1 .0))
+  bench-q-determined p e = (p .0 ∙ sym (e .0), p .1 ∙ sym (e .1))
+
+-- `bench_spread`: the answer, `answer`, `real`
+module _ (κs : Lfts 4) (a : ArgsD bench-spread.signature κs) (r q : ResD bench-spread.signature κs)
+    (s t : AtExit (endedOf 4 bench-spread-kinds.ps bench-spread-kinds.r) κs) where
+  pub bench-spread-determined : bench-spread-reads.Post κs a r s → bench-spread-reads.Post κs a q t →
+      (r ≡ q)
+      × (now (s .1 .1 .1 .1 .1 .1 .0) ≡ now (t .1 .1 .1 .1 .1 .1 .0))
+      × (now (s .1 .1 .1 .1 .1 .1 .1 .0) ≡ now (t .1 .1 .1 .1 .1 .1 .1 .0))
+  bench-spread-determined p e = (p .0 ∙ sym (e .0), p .1 .0 ∙ sym (e .1 .0), p .1 .1 ∙ sym (e .1 .1))
+
+-- `bench_field_at`: the answer, `answer`
+module _ (κs : Lfts 2) (a : ArgsD bench-field-at.signature κs) (r q : ResD bench-field-at.signature κs)
+    (s t : AtExit (endedOf 2 bench-field-at-kinds.ps bench-field-at-kinds.r) κs) where
+  pub bench-field-at-determined : bench-field-at-reads.Post κs a r s → bench-field-at-reads.Post κs a q t →
+      (r ≡ q)
+      × (now (s .1 .1 .1 .1 .0) ≡ now (t .1 .1 .1 .1 .0))
+  bench-field-at-determined p e = (p .0 ∙ sym (e .0), p .1 ∙ sym (e .1))
+
+-- `bench_read`: the answer, `signed`, `answer`
+module _ (κs : Lfts 3) (a : ArgsD bench-read.signature κs) (r q : ResD bench-read.signature κs)
+    (s t : AtExit (endedOf 3 bench-read-kinds.ps bench-read-kinds.r) κs) where
+  pub bench-read-determined : bench-read-reads.Post κs a r s → bench-read-reads.Post κs a q t →
+      (r ≡ q)
+      × (now (s .1 .0) ≡ now (t .1 .0))
+      × (now (s .1 .1 .0) ≡ now (t .1 .1 .0))
+  bench-read-determined p e = (p .0 ∙ sym (e .0), p .1 .0 ∙ sym (e .1 .0), p .1 .1 ∙ sym (e .1 .1))
+
+-- `bench_solve`: the answer, `words`, `values`, `deviations`, `answer`, `real`
+module _ (κs : Lfts 6) (a : ArgsD bench-solve.signature κs) (r q : ResD bench-solve.signature κs)
+    (s t : AtExit (endedOf 6 bench-solve-kinds.ps bench-solve-kinds.r) κs) where
+  pub bench-solve-determined : bench-solve-reads.Post κs a r s → bench-solve-reads.Post κs a q t →
+      (r ≡ q)
+      × (now (s .1 .0) ≡ now (t .1 .0))
+      × (now (s .1 .1 .0) ≡ now (t .1 .1 .0))
+      × (now (s .1 .1 .1 .0) ≡ now (t .1 .1 .1 .0))
+      × (now (s .1 .1 .1 .1 .0) ≡ now (t .1 .1 .1 .1 .0))
+      × (now (s .1 .1 .1 .1 .1 .0) ≡ now (t .1 .1 .1 .1 .1 .0))
   bench-solve-determined p e = (
     p .0 ∙ sym (e .0),
     p .1 .0 ∙ sym (e .1 .0),
@@ -38,13 +191,88 @@ module _ (κs : Lfts 6) (a : ArgsD solve.signature κs) (r q : ResD solve.signat
     p .1 .1 .1 .1 .1 ∙ sym (e .1 .1 .1 .1 .1),
   )
 
--- the same number, and the same file and answer after
-module _ (κs : Lfts 4) (a : ArgsD write.signature κs) (r q : ResD write.signature κs) (s t : AtExit (endedOf 4 writeKinds.ps writeKinds.r) κs) where
-  pub bench-write-determined : writeReads.Post κs a r s → writeReads.Post κs a q t
-      → (r ≡ q) × (now (s .1 .1 .1 .1 .1 .1 .1 .1 .0) ≡ now (t .1 .1 .1 .1 .1 .1 .1 .1 .0)) × (now (s .1 .1 .1 .1 .1 .1 .1 .1 .1 .0) ≡ now (t .1 .1 .1 .1 .1 .1 .1 .1 .1 .0))
+-- `bench_write`: the answer, `out`, `answer`
+module _ (κs : Lfts 4) (a : ArgsD bench-write.signature κs) (r q : ResD bench-write.signature κs)
+    (s t : AtExit (endedOf 4 bench-write-kinds.ps bench-write-kinds.r) κs) where
+  pub bench-write-determined : bench-write-reads.Post κs a r s → bench-write-reads.Post κs a q t →
+      (r ≡ q)
+      × (now (s .1 .1 .1 .1 .1 .1 .1 .1 .0) ≡ now (t .1 .1 .1 .1 .1 .1 .1 .1 .0))
+      × (now (s .1 .1 .1 .1 .1 .1 .1 .1 .1 .0) ≡ now (t .1 .1 .1 .1 .1 .1 .1 .1 .1 .0))
   bench-write-determined p e = (p .0 ∙ sym (e .0), p .1 .0 ∙ sym (e .1 .0), p .1 .1 ∙ sym (e .1 .1))
 
--- the same number, and the same text and answer after
-module _ (κs : Lfts 3) (a : ArgsD listing.signature κs) (r q : ResD listing.signature κs) (s t : AtExit (endedOf 3 listingKinds.ps listingKinds.r) κs) where
-  pub bench-listing-determined : listingReads.Post κs a r s → listingReads.Post κs a q t → (r ≡ q) × (now (s .1 .0) ≡ now (t .1 .0)) × (now (s .1 .1 .0) ≡ now (t .1 .1 .0))
+-- `bench_listing`: the answer, `out`, `answer`
+module _ (κs : Lfts 3) (a : ArgsD bench-listing.signature κs) (r q : ResD bench-listing.signature κs)
+    (s t : AtExit (endedOf 3 bench-listing-kinds.ps bench-listing-kinds.r) κs) where
+  pub bench-listing-determined : bench-listing-reads.Post κs a r s → bench-listing-reads.Post κs a q t →
+      (r ≡ q)
+      × (now (s .1 .0) ≡ now (t .1 .0))
+      × (now (s .1 .1 .0) ≡ now (t .1 .1 .0))
   bench-listing-determined p e = (p .0 ∙ sym (e .0), p .1 .0 ∙ sym (e .1 .0), p .1 .1 ∙ sym (e .1 .1))
+
+-- `bench_refusal`: the answer
+module _ (κs : Lfts 2) (a : ArgsD bench-refusal.signature κs) (r q : ResD bench-refusal.signature κs)
+    (s t : AtExit (endedOf 2 bench-refusal-kinds.ps bench-refusal-kinds.r) κs) where
+  pub bench-refusal-determined : bench-refusal-reads.Post κs a r s → bench-refusal-reads.Post κs a q t →
+      r ≡ q
+  bench-refusal-determined p e = p ∙ sym e
+
+-- `bench_values`: the answer, `values`
+module _ (κs : Lfts 3) (a : ArgsD bench-values.signature κs) (r q : ResD bench-values.signature κs)
+    (s t : AtExit (endedOf 3 bench-values-kinds.ps bench-values-kinds.r) κs) where
+  pub bench-values-determined : bench-values-reads.Post κs a r s → bench-values-reads.Post κs a q t →
+      (r ≡ q)
+      × (now (s .1 .1 .1 .1 .1 .1 .1 .1 .0) ≡ now (t .1 .1 .1 .1 .1 .1 .1 .1 .0))
+  bench-values-determined p e = (p .0 ∙ sym (e .0), p .1 ∙ sym (e .1))
+
+-- `bench_value_of`: the answer, `signed`, `answer`, `real`
+module _ (κs : Lfts 5) (a : ArgsD bench-value-of.signature κs) (r q : ResD bench-value-of.signature κs)
+    (s t : AtExit (endedOf 5 bench-value-of-kinds.ps bench-value-of-kinds.r) κs) where
+  pub bench-value-of-determined : bench-value-of-reads.Post κs a r s → bench-value-of-reads.Post κs a q t →
+      (r ≡ q)
+      × (now (s .1 .1 .1 .1 .1 .1 .1 .1 .1 .0) ≡ now (t .1 .1 .1 .1 .1 .1 .1 .1 .1 .0))
+      × (now (s .1 .1 .1 .1 .1 .1 .1 .1 .1 .1 .0) ≡ now (t .1 .1 .1 .1 .1 .1 .1 .1 .1 .1 .0))
+      × (now (s .1 .1 .1 .1 .1 .1 .1 .1 .1 .1 .1 .0) ≡ now (t .1 .1 .1 .1 .1 .1 .1 .1 .1 .1 .1 .0))
+  bench-value-of-determined p e = (p .0 ∙ sym (e .0), p .1 .0 ∙ sym (e .1 .0), p .1 .1 .0 ∙ sym (e .1 .1 .0), p .1 .1 .1 ∙ sym (e .1 .1 .1))
+
+-- `bench_analyse`: the answer, `words`, `values`, `deviations`, `answer`, `real`
+module _ (κs : Lfts 7) (a : ArgsD bench-analyse.signature κs) (r q : ResD bench-analyse.signature κs)
+    (s t : AtExit (endedOf 7 bench-analyse-kinds.ps bench-analyse-kinds.r) κs) where
+  pub bench-analyse-determined : bench-analyse-reads.Post κs a r s → bench-analyse-reads.Post κs a q t →
+      (r ≡ q)
+      × (now (s .1 .1 .1 .1 .1 .1 .1 .1 .0) ≡ now (t .1 .1 .1 .1 .1 .1 .1 .1 .0))
+      × (now (s .1 .1 .1 .1 .1 .1 .1 .1 .1 .0) ≡ now (t .1 .1 .1 .1 .1 .1 .1 .1 .1 .0))
+      × (now (s .1 .1 .1 .1 .1 .1 .1 .1 .1 .1 .0) ≡ now (t .1 .1 .1 .1 .1 .1 .1 .1 .1 .1 .0))
+      × (now (s .1 .1 .1 .1 .1 .1 .1 .1 .1 .1 .1 .0) ≡ now (t .1 .1 .1 .1 .1 .1 .1 .1 .1 .1 .1 .0))
+      × (now (s .1 .1 .1 .1 .1 .1 .1 .1 .1 .1 .1 .1 .0) ≡ now (t .1 .1 .1 .1 .1 .1 .1 .1 .1 .1 .1 .1 .0))
+  bench-analyse-determined p e = (
+    p .0 ∙ sym (e .0),
+    p .1 .0 ∙ sym (e .1 .0),
+    p .1 .1 .0 ∙ sym (e .1 .1 .0),
+    p .1 .1 .1 .0 ∙ sym (e .1 .1 .1 .0),
+    p .1 .1 .1 .1 .0 ∙ sym (e .1 .1 .1 .1 .0),
+    p .1 .1 .1 .1 .1 ∙ sym (e .1 .1 .1 .1 .1),
+  )
+
+-- `bench_total`: the answer, `signed`
+module _ (κs : Lfts 3) (a : ArgsD bench-total.signature κs) (r q : ResD bench-total.signature κs)
+    (s t : AtExit (endedOf 3 bench-total-kinds.ps bench-total-kinds.r) κs) where
+  pub bench-total-determined : bench-total-reads.Post κs a r s → bench-total-reads.Post κs a q t →
+      (r ≡ q)
+      × (now (s .1 .1 .1 .1 .1 .1 .1 .0) ≡ now (t .1 .1 .1 .1 .1 .1 .1 .0))
+  bench-total-determined p e = (p .0 ∙ sym (e .0), p .1 ∙ sym (e .1))
+
+-- `bench_sum_of_squares`: the answer, `answer`
+module _ (κs : Lfts 2) (a : ArgsD bench-sum-of-squares.signature κs) (r q : ResD bench-sum-of-squares.signature κs)
+    (s t : AtExit (endedOf 2 bench-sum-of-squares-kinds.ps bench-sum-of-squares-kinds.r) κs) where
+  pub bench-sum-of-squares-determined : bench-sum-of-squares-reads.Post κs a r s → bench-sum-of-squares-reads.Post κs a q t →
+      (r ≡ q)
+      × (now (s .1 .1 .1 .1 .1 .0) ≡ now (t .1 .1 .1 .1 .1 .0))
+  bench-sum-of-squares-determined p e = (p .0 ∙ sym (e .0), p .1 ∙ sym (e .1))
+
+-- `bench_sum_of_squared_totals`: the answer, `answer`
+module _ (κs : Lfts 3) (a : ArgsD bench-sum-of-squared-totals.signature κs) (r q : ResD bench-sum-of-squared-totals.signature κs)
+    (s t : AtExit (endedOf 3 bench-sum-of-squared-totals-kinds.ps bench-sum-of-squared-totals-kinds.r) κs) where
+  pub bench-sum-of-squared-totals-determined : bench-sum-of-squared-totals-reads.Post κs a r s → bench-sum-of-squared-totals-reads.Post κs a q t →
+      (r ≡ q)
+      × (now (s .1 .1 .1 .1 .1 .1 .0) ≡ now (t .1 .1 .1 .1 .1 .1 .0))
+  bench-sum-of-squared-totals-determined p e = (p .0 ∙ sym (e .0), p .1 ∙ sym (e .1))

@@ -1,2 +1,4 @@
--- What the promises of the exported calls rule out.
+-- Tests for room that come last, what the number 0 tells, and what the promises rule out.
+pub mod Last
+pub mod Zero
 pub mod Determined

@@ -1,2 +1,5 @@
--- What a file that is solved answers.
-pub mod Solving
+-- What the calls from C take, and what those that write into lent rooms leave there.
+pub mod Heads
+pub mod Rooms
+pub mod Jobs
+pub mod Files

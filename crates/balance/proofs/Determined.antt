@@ -1,24 +1,58 @@
--- Any two outcomes that keep the promise of a public function are identical. `Post` is the contract itself, as the check reads it from the source:
--- where a clause of it is dropped or weakened, the theorem fails. Assumes nothing.
+-- Any two outcomes that keep the promise of a public function are identical: the answer and what each lent buffer holds at the end. `Post` is the
+-- contract itself, as the check reads it from the source: where a clause of it is dropped or weakened, the theorem fails. Assumes nothing.
+-- (tools/determined.py writes this file.)
 use mathlib.Core.Path.{_≡_, sym, _∙_}
 use contract.Lifetimes.{Lfts}
-use denote.Ref.{now}
 use borrow.Fn.World.{ArgsD, ResD}
 use borrow.Fn.Kinds.{endedOf}
 use denote.Triple.Clauses.{AtExit}
-use Rattle.balance.proofs.judge as judge
-use Rattle.balance.proofs.judge.Kinds as judgeKinds
-use Rattle.balance.proofs.judge.Reads as judgeReads
-use Rattle.balance.proofs.judge_developed as developed
-use Rattle.balance.proofs.judge_developed.Kinds as developedKinds
-use Rattle.balance.proofs.judge_developed.Reads as developedReads
+use Rattle.balance.proofs.counting.count_company as count-company
+use Rattle.balance.proofs.counting.count_company.Kinds as count-company-kinds
+use Rattle.balance.proofs.counting.count_company.Reads as count-company-reads
+use Rattle.balance.proofs.counting.count_opposition as count-opposition
+use Rattle.balance.proofs.counting.count_opposition.Kinds as count-opposition-kinds
+use Rattle.balance.proofs.counting.count_opposition.Reads as count-opposition-reads
+use Rattle.balance.proofs.tables.company as company
+use Rattle.balance.proofs.tables.company.Kinds as company-kinds
+use Rattle.balance.proofs.tables.company.Reads as company-reads
+use Rattle.balance.proofs.tables.opposition as opposition
+use Rattle.balance.proofs.tables.opposition.Kinds as opposition-kinds
+use Rattle.balance.proofs.tables.opposition.Reads as opposition-reads
+use Rattle.balance.proofs.verdict.judge as judge
+use Rattle.balance.proofs.verdict.judge.Kinds as judge-kinds
+use Rattle.balance.proofs.verdict.judge.Reads as judge-reads
 
--- the same verdict and parameters
-module _ (κs : Lfts 1) (a : ArgsD judge.signature κs) (r q : ResD judge.signature κs) (s t : AtExit (endedOf 1 judgeKinds.ps judgeKinds.r) κs) where
-  pub judge-determined : judgeReads.Post κs a r s → judgeReads.Post κs a q t → r ≡ q
+-- `count_company`: the answer
+module _ (κs : Lfts 1) (a : ArgsD count-company.signature κs) (r q : ResD count-company.signature κs)
+    (s t : AtExit (endedOf 1 count-company-kinds.ps count-company-kinds.r) κs) where
+  pub count-company-determined : count-company-reads.Post κs a r s → count-company-reads.Post κs a q t →
+      r ≡ q
+  count-company-determined p e = p ∙ sym e
+
+-- `count_opposition`: the answer
+module _ (κs : Lfts 1) (a : ArgsD count-opposition.signature κs) (r q : ResD count-opposition.signature κs)
+    (s t : AtExit (endedOf 1 count-opposition-kinds.ps count-opposition-kinds.r) κs) where
+  pub count-opposition-determined : count-opposition-reads.Post κs a r s → count-opposition-reads.Post κs a q t →
+      r ≡ q
+  count-opposition-determined p e = p ∙ sym e
+
+-- `company`: the answer
+module _ (κs : Lfts 1) (a : ArgsD company.signature κs) (r q : ResD company.signature κs)
+    (s t : AtExit (endedOf 1 company-kinds.ps company-kinds.r) κs) where
+  pub company-determined : company-reads.Post κs a r s → company-reads.Post κs a q t →
+      r ≡ q
+  company-determined p e = p ∙ sym e
+
+-- `opposition`: the answer
+module _ (κs : Lfts 1) (a : ArgsD opposition.signature κs) (r q : ResD opposition.signature κs)
+    (s t : AtExit (endedOf 1 opposition-kinds.ps opposition-kinds.r) κs) where
+  pub opposition-determined : opposition-reads.Post κs a r s → opposition-reads.Post κs a q t →
+      r ≡ q
+  opposition-determined p e = p ∙ sym e
+
+-- `judge`: the answer
+module _ (κs : Lfts 1) (a : ArgsD judge.signature κs) (r q : ResD judge.signature κs)
+    (s t : AtExit (endedOf 1 judge-kinds.ps judge-kinds.r) κs) where
+  pub judge-determined : judge-reads.Post κs a r s → judge-reads.Post κs a q t →
+      r ≡ q
   judge-determined p e = p ∙ sym e
-
--- the same verdict and parameters, and the same words after
-module _ (κs : Lfts 2) (a : ArgsD developed.signature κs) (r q : ResD developed.signature κs) (s t : AtExit (endedOf 2 developedKinds.ps developedKinds.r) κs) where
-  pub judge-developed-determined : developedReads.Post κs a r s → developedReads.Post κs a q t → (r ≡ q) × (now (s .1 .1 .0) ≡ now (t .1 .1 .0))
-  judge-developed-determined p e = (p .0 ∙ sym (e .0), p .1 ∙ sym (e .1))

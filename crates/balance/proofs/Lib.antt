@@ -1,3 +1,2 @@
--- What the proofs of the functions stand on.
-pub mod Judging
+-- That each promise determines its outcome.
 pub mod Determined

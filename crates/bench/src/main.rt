@@ -1,5 +1,5 @@
-// The bench: reads a job file from standard input, up to 8,192 bytes, and prints its listing. A read that fails counts as the end. A listing that cannot be written whole is said to
-// be so on standard error: a program sets no exit status of its own.
+// The bench: reads a job file from standard input, up to 8,192 bytes, and prints its listing. A read that fails counts as the end. A listing that
+// cannot be written whole is said to be so on standard error: a program sets no exit status of its own.
 use libc::STDERR_FILENO;
 use libc::STDIN_FILENO;
 use libc::STDOUT_FILENO;

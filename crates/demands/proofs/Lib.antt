@@ -1,7 +1,11 @@
--- The one page of demands, the page on writing, and the small laws that only they need.
+-- What the customer signs stands in Demands; the files before it have the laws that it cites.
+pub mod Outcomes
 pub mod Order
-pub mod Parts
-pub mod Demands
 pub mod Calls
-pub mod Files
+pub mod Balance
+pub mod Papers
+pub mod Answers
+pub mod Published
 pub mod Writing
+pub mod Demands
+pub mod Rows

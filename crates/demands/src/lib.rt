@@ -1,2 +1,2 @@
-// The three demands of the request, each direct call under the first of them, and the writing of jobs, stated in the request's words and proved. Theorems only: proofs/Demands.antt is the
-// page to read first, Calls.antt and Writing.antt stand beside it.
+// The three demands of the request and the writing of jobs, in the request's words, stated and proved. There is no code here: specs/ is what is signed, a
+// record for each demand with a field for each clause, and proofs/Demands.antt has the theorems.

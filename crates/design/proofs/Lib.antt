@@ -1,3 +1,3 @@
--- What the proofs of the functions stand on, and that each promise determines its outcome.
-pub mod Searches
+-- What a head within the sizes counts, and that each promise determines its outcome.
+pub mod Within
 pub mod Determined

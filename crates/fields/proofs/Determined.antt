@@ -1,14 +1,38 @@
--- Any two outcomes that keep the promise of a public call are the same. `Post` is the contract itself, so where a clause of it is dropped the theorem fails. Assumes nothing.
+-- Any two outcomes that keep the promise of a public function are identical: the answer and what each lent buffer holds at the end. `Post` is the
+-- contract itself, as the check reads it from the source: where a clause of it is dropped or weakened, the theorem fails. Assumes nothing.
+-- (tools/determined.py writes this file.)
 use mathlib.Core.Path.{_≡_, sym, _∙_}
 use contract.Lifetimes.{Lfts}
 use borrow.Fn.World.{ArgsD, ResD}
-use denote.Triple.Clauses.{AtExit}
 use borrow.Fn.Kinds.{endedOf}
-use Rattle.fields.proofs.fields_refusal as fields-refusal
-use Rattle.fields.proofs.fields_refusal.Kinds as fields-refusal-kinds
-use Rattle.fields.proofs.fields_refusal.Reads as fields-refusal-contract
+use denote.Triple.Clauses.{AtExit}
+use Rattle.fields.proofs.contents.held as held
+use Rattle.fields.proofs.contents.held.Kinds as held-kinds
+use Rattle.fields.proofs.contents.held.Reads as held-reads
+use Rattle.fields.proofs.framing.field_at as field-at
+use Rattle.fields.proofs.framing.field_at.Kinds as field-at-kinds
+use Rattle.fields.proofs.framing.field_at.Reads as field-at-reads
+use Rattle.fields.proofs.order.fields_refusal as fields-refusal
+use Rattle.fields.proofs.order.fields_refusal.Kinds as fields-refusal-kinds
+use Rattle.fields.proofs.order.fields_refusal.Reads as fields-refusal-reads
 
--- two answers that `fields_refusal` may give are the same
-module _ (κs : Lfts 1) (a : ArgsD fields-refusal.signature κs) (r q : ResD fields-refusal.signature κs) (s t : AtExit (endedOf 1 fields-refusal-kinds.ps fields-refusal-kinds.r) κs) where
-  pub fields-refusal-determined : fields-refusal-contract.Post κs a r s → fields-refusal-contract.Post κs a q t → r ≡ q
+-- `held`: the answer
+module _ (κs : Lfts 1) (a : ArgsD held.signature κs) (r q : ResD held.signature κs)
+    (s t : AtExit (endedOf 1 held-kinds.ps held-kinds.r) κs) where
+  pub held-determined : held-reads.Post κs a r s → held-reads.Post κs a q t →
+      r ≡ q
+  held-determined p e = p ∙ sym e
+
+-- `field_at`: the answer
+module _ (κs : Lfts 1) (a : ArgsD field-at.signature κs) (r q : ResD field-at.signature κs)
+    (s t : AtExit (endedOf 1 field-at-kinds.ps field-at-kinds.r) κs) where
+  pub field-at-determined : field-at-reads.Post κs a r s → field-at-reads.Post κs a q t →
+      r ≡ q
+  field-at-determined p e = p ∙ sym e
+
+-- `fields_refusal`: the answer
+module _ (κs : Lfts 1) (a : ArgsD fields-refusal.signature κs) (r q : ResD fields-refusal.signature κs)
+    (s t : AtExit (endedOf 1 fields-refusal-kinds.ps fields-refusal-kinds.r) κs) where
+  pub fields-refusal-determined : fields-refusal-reads.Post κs a r s → fields-refusal-reads.Post κs a q t →
+      r ≡ q
   fields-refusal-determined p e = p ∙ sym e

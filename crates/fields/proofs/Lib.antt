@@ -1,3 +1,5 @@
--- The order of the fields' tests, and what the promises determine.
-pub mod Order
+-- How far the places of a file reach, and that each promise determines its outcome.
+pub mod Bounds
+pub mod Starts
 pub mod Determined
+pub mod ReaderDetermined

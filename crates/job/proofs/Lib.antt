@@ -1,3 +1,3 @@
--- The laws of reading, and what the promise determines.
-pub mod Reading
+-- What a direct call is handed of a file, and that each promise determines its outcome.
+pub mod Holding
 pub mod Determined

@@ -1,2 +1,2 @@
--- What the private functions of this crate promise beyond the definitions of the bench.
-pub mod Answers
+-- What the private functions promise beyond the definitions of the bench.
+pub mod Direct

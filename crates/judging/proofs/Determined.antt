@@ -1,15 +1,28 @@
--- Any two outcomes that keep the promise of a public function are identical. `Post` is the promise itself, as the check reads it from the source. Assumes nothing.
+-- Any two outcomes that keep the promise of a public function are identical: the answer and what each lent buffer holds at the end. `Post` is the
+-- contract itself, as the check reads it from the source: where a clause of it is dropped or weakened, the theorem fails. Assumes nothing.
+-- (tools/determined.py writes this file.)
 use mathlib.Core.Path.{_≡_, sym, _∙_}
 use contract.Lifetimes.{Lfts}
-use denote.Ref.{now}
 use borrow.Fn.World.{ArgsD, ResD}
 use borrow.Fn.Kinds.{endedOf}
 use denote.Triple.Clauses.{AtExit}
-use Rattle.judging.proofs.judged_with_words as judgedWithWordsCall
-use Rattle.judging.proofs.judged_with_words.Kinds as judgedWithWordsCallKinds
-use Rattle.judging.proofs.judged_with_words.Reads as judgedWithWordsCallReads
+use Rattle.judging.proofs.order.refusal as refusal
+use Rattle.judging.proofs.order.refusal.Kinds as refusal-kinds
+use Rattle.judging.proofs.order.refusal.Reads as refusal-reads
+use Rattle.judging.proofs.order.judged_job as judged-job
+use Rattle.judging.proofs.order.judged_job.Kinds as judged-job-kinds
+use Rattle.judging.proofs.order.judged_job.Reads as judged-job-reads
 
--- the same verdict and parameters, and the same words after
-module _ (κs : Lfts 3) (a : ArgsD judgedWithWordsCall.signature κs) (r q : ResD judgedWithWordsCall.signature κs) (s t : AtExit (endedOf 3 judgedWithWordsCallKinds.ps judgedWithWordsCallKinds.r) κs) where
-  pub judged-with-words-determined : judgedWithWordsCallReads.Post κs a r s → judgedWithWordsCallReads.Post κs a q t → (r ≡ q) × (now (s .1 .1 .1 .1 .1 .0) ≡ now (t .1 .1 .1 .1 .1 .0))
-  judged-with-words-determined p e = (p .0 ∙ sym (e .0), p .1 ∙ sym (e .1))
+-- `refusal`: the answer
+module _ (κs : Lfts 2) (a : ArgsD refusal.signature κs) (r q : ResD refusal.signature κs)
+    (s t : AtExit (endedOf 2 refusal-kinds.ps refusal-kinds.r) κs) where
+  pub refusal-determined : refusal-reads.Post κs a r s → refusal-reads.Post κs a q t →
+      r ≡ q
+  refusal-determined p e = p ∙ sym e
+
+-- `judged_job`: the answer
+module _ (κs : Lfts 2) (a : ArgsD judged-job.signature κs) (r q : ResD judged-job.signature κs)
+    (s t : AtExit (endedOf 2 judged-job-kinds.ps judged-job-kinds.r) κs) where
+  pub judged-job-determined : judged-job-reads.Post κs a r s → judged-job-reads.Post κs a q t →
+      r ≡ q
+  judged-job-determined p e = p ∙ sym e

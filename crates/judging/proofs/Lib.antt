@@ -1,3 +1,3 @@
--- The laws of rooms that are long enough and of words that are copied, and what the promises determine.
-pub mod Rooms
+-- The restraint, test by test, and that each promise determines its outcome.
+pub mod Restrained
 pub mod Determined

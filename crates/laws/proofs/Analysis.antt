@@ -19,12 +19,39 @@ use Rattle.algebra.proofs.Order.{natural}
 use Rattle.algebra.proofs.Sums.{sum-cong}
 use Rattle.records.specs.declared.Head.{Head}
 use Rattle.meaning.specs.Design.{objects, blocks, balanced, beta}
-use Rattle.meaning.specs.Analysis.{sq, reading, sign, total, members, restrained, vbeta, numeratorOf, denominatorOf, difference, deviationOf, squaredReadings, squaredTotals, q, qOf}
+use Rattle.meaning.specs.Analysis.{
+  sq,
+  reading,
+  sign,
+  total,
+  members,
+  restrained,
+  vbeta,
+  numeratorOf,
+  denominatorOf,
+  difference,
+  deviationOf,
+  squaredReadings,
+  squaredTotals,
+  q,
+  qOf,
+}
 use Rattle.laws.proofs.Chains.{Sound, Job}
 use Rattle.laws.proofs.Counting.{parameters}
 use Rattle.laws.proofs.LeastSquares.{apart, rows-cancel}
 use Rattle.laws.proofs.Matrix.{signs-cancel, difference-signs, design-matrix}
-use Rattle.laws.proofs.Solution.{members-some, top-kept, apart-values, squares, squares-Q, Q-nonneg, squares-values, least-Q, hundredths-least, hundredths-excess}
+use Rattle.laws.proofs.Solution.{
+  members-some,
+  top-kept,
+  apart-values,
+  squares,
+  squares-Q,
+  Q-nonneg,
+  squares-values,
+  least-Q,
+  hundredths-least,
+  hundredths-excess,
+}
 
 -- the sum of the squared deviations of the values a i / e, times e²
 abbrev pub squaresOver : Head → List ℕ → List ℤ → ℤ → (ℕ → ℤ) → ℤ
@@ -105,14 +132,16 @@ module _ (h : Head) (d : List ℕ) (s : Sound h d) (e : balanced h d ≡ true) w
       unfolding numeratorOf denominatorOf squaredReadings squaredTotals total
       least-strict b a keeps i l differs = subst₂ _<ℤ_
           (ap (λ z. sq (pos b) *ℤ z) (sym q-nonneg)) (ap (λ z. pos (vbeta h d) *ℤ z) (sym (squares-signs h d s y (pos b) a)))
-          (least-Q (blocks h) (objects h) (beta h d) (sign h d) (design-matrix h d s e) (reading y) some-objects (parameters h d s e .positive) w M t b a keeps i l differs)
+          (least-Q (blocks h) (objects h) (beta h d) (sign h d) (design-matrix h d s e) (reading y) some-objects
+          (parameters h d s e .positive) w M t b a keeps i l differs)
 
       -- no hundredths have smaller squares than the exact values
       pub hundredths-above : (x : ℕ → ℤ) → (pos 10000 *ℤ pos (qOf h d y)) ≤ℤ (pos (vbeta h d) *ℤ squaresOver h d y (pos 100) x)
       unfolding squaredReadings squaredTotals total
       hundredths-above x = subst₂ _≤ℤ_
           (ap (λ z. pos 10000 *ℤ z) (sym q-nonneg)) (ap (λ z. pos (vbeta h d) *ℤ z) (sym (squares-signs h d s y (pos 100) x)))
-          (hundredths-least (blocks h) (objects h) (beta h d) (sign h d) (design-matrix h d s e) (reading y) some-objects (parameters h d s e .positive) w M t x)
+          (hundredths-least (blocks h) (objects h) (beta h d) (sign h d) (design-matrix h d s e) (reading y) some-objects
+          (parameters h d s e .positive) w M t x)
 
       -- hundredths that are at most a half away from the exact values have squares at most βv²/40,000 larger
       pub hundredths-near : (x : ℕ → ℤ) →
@@ -123,7 +152,8 @@ module _ (h : Head) (d : List ℕ) (s : Sound h d) (e : balanced h d ≡ true) w
       hundredths-near x near = subst₂ _≤ℤ_
           (ap (λ z. pos 4 *ℤ pos (vbeta h d) *ℤ z) (sym (squares-signs h d s y (pos 100) x)))
           (ap (λ z. pos 40000 *ℤ z +ℤ pos (beta h d * objects h * objects h) *ℤ pos (vbeta h d)) (sym q-nonneg))
-          (hundredths-excess (blocks h) (objects h) (beta h d) (sign h d) (design-matrix h d s e) (reading y) some-objects (parameters h d s e .positive) w M t x near)
+          (hundredths-excess (blocks h) (objects h) (beta h d) (sign h d) (design-matrix h d s e) (reading y) some-objects
+          (parameters h d s e .positive) w M t x near)
 
 -- the restraint set of an accepted job has a member
 pub job-members : (h : Head) (d : List ℕ) (y : List ℤ) (w : ℕ) (M : ℤ) → Job h d y w M → 0 < members (objects h) w

@@ -20,7 +20,7 @@ use Rattle.records.specs.declared.Verdict.{Verdict}
 use Rattle.records.specs.declared.Verdict.the-variants.{Accepted, Refused}
 use Rattle.meaning.specs.Design.{objects, blocks, sized, listLength, balanced}
 use Rattle.meaning.specs.Analysis.{reading}
-use Rattle.meaning.specs.Refusals.{accepted, refused, test, _⨾_, offender, farReading, clean, restraint, inReach}
+use Rattle.meaning.specs.Refusals.{accepted, refused, test, _⨾_, offender, farReading, clean, restraint, inReach, readingLimit, sumLimit}
 use Rattle.meaning.specs.Calls.{given, designVerdict, judgeVerdict, slices, contents, jobVerdict, readingsVerdict}
 use Rattle.laws.specs.Fits.{Fits}
 
@@ -168,10 +168,10 @@ judged-sound h d e = let a = opened _ _ e in (sound h d (a .0), held _ _ _ (a .1
 -- ---- readings
 
 -- where no reading is found to be out of range, every one is in it
-pub readings-near : (y : List ℤ) → inReach y ≡ accepted → (k : ℕ) → k < length y → natAbs (reading y k) ≤ 200000
+pub readings-near : (y : List ℤ) → inReach y ≡ accepted → (k : ℕ) → k < length y → natAbs (reading y k) ≤ readingLimit
 unfolding farReading
-readings-near y e k l = ltb-false 200000 (natAbs (reading y k))
-    (first-before (λ k. ltb 200000 (natAbs (reading y k))) 0 (length y) k (omega arith)
+readings-near y e k l = ltb-false readingLimit (natAbs (reading y k))
+    (first-before (λ k. ltb readingLimit (natAbs (reading y k))) 0 (length y) k (omega arith)
     (subst (λ (x : ℕ). k < x) (sym (eqb-true _ _ (held _ _ _ e))) l))
 
 -- the sizes and the two lengths of a job's slices
@@ -199,7 +199,7 @@ slices-sound h d y s e = record { sizes = s .sizes; long = s .long; clean = eqb-
 -- the readings of a sound design are as many as its blocks, all in range
 pub record Readings (h : Head) (y : List ℤ) : Type 0 where
   pub readings-long : length y ≡ blocks h
-  pub readings-most : (k : ℕ) → k < blocks h → natAbs (reading y k) ≤ 200000
+  pub readings-most : (k : ℕ) → k < blocks h → natAbs (reading y k) ≤ readingLimit
 
 -- with no reading out of range they have such readings
 pub slices-readings : (h : Head) (d : List ℕ) (y : List ℤ) → Slices h d y → inReach y ≡ accepted → Readings h y
@@ -234,12 +234,12 @@ measured h d y e =
 pub record Restraint (h : Head) (w : ℕ) (M : ℤ) : Type 0 where
   pub set-some : 0 < w
   pub set-inside : w < 2 ^ objects h
-  pub sum-most : natAbs M ≤ 1000000000
+  pub sum-most : natAbs M ≤ sumLimit
 
 -- an accepted restraint is such
 pub restrains : (h : Head) (w : ℕ) (M : ℤ) → restraint h w M ≡ accepted → Restraint h w M
 restrains h w M e =
-    let a = both (ltb 0 w && ltb w (2 ^ objects h)) (leb (natAbs M) 1000000000) (held _ _ _ e) in
+    let a = both (ltb 0 w && ltb w (2 ^ objects h)) (leb (natAbs M) sumLimit) (held _ _ _ e) in
     let b = both (ltb 0 w) (ltb w (2 ^ objects h)) (a .0) in
     record {
       set-some = ltb-true _ _ (b .0);

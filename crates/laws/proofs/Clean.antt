@@ -1,4 +1,5 @@
--- The blocks of a sound design: p objects on each side, none twice in a block. The initial blocks have no byte twice, and a shift moves two bytes of them to two objects.
+-- The blocks of a sound design: p objects on each side, none twice in a block. The initial blocks have no byte twice, and a shift moves two bytes of
+-- them to two objects.
 --     in-range, initial-once                what no offending byte means
 --     left-objects, right-objects           the objects of a side are below v
 --     block-left, block-right, block-once   a block has p objects on each side, and none twice
@@ -170,12 +171,14 @@ module _ (h : Head) (d : List ℕ) (s : Sound h d) (k : ℕ) (l : k < blocks h) 
   -- the left has p objects
   pub left-length : length (left h d k) ≡ h .p
   unfolding left
-  left-length = length-map (take (h .p) (drop (2 * h .p * (k / h .n)) d)) (moved h (k % h .n)) ∙ part-length d (2 * h .p * (k / h .n)) (h .p) (omega (arith, inside))
+  left-length = length-map (take (h .p) (drop (2 * h .p * (k / h .n)) d)) (moved h (k % h .n))
+      ∙ part-length d (2 * h .p * (k / h .n)) (h .p) (omega (arith, inside))
 
   -- so has the right
   pub right-length : length (right h d k) ≡ h .p
   unfolding right
-  right-length = length-map (take (h .p) (drop (2 * h .p * (k / h .n) + h .p) d)) (moved h (k % h .n)) ∙ part-length d (2 * h .p * (k / h .n) + h .p) (h .p) (omega (arith, inside))
+  right-length = length-map (take (h .p) (drop (2 * h .p * (k / h .n) + h .p) d)) (moved h (k % h .n))
+      ∙ part-length d (2 * h .p * (k / h .n) + h .p) (h .p) (omega (arith, inside))
 
   -- the two sides are the initial block, moved
   pub block-halves : left h d k ++ right h d k ≡ map (moved h (k % h .n)) (initial h d (k / h .n))

@@ -13,7 +13,22 @@ use Rattle.records.specs.declared.Verdict.the-variants.{Accepted, Refused}
 use Rattle.meaning.specs.Design.{objects, blocks, sized, listLength}
 use Rattle.meaning.specs.Refusals.{accepted, test, _⨾_, sizes}
 use Rattle.meaning.specs.Calls.{slices, contents, jobVerdict, rooms, analyseVerdict}
-use Rattle.meaning.specs.File.{numbersAt, fieldVerdict, headOf, endAt, blocksAt, readingsAt, blocksOf, setOf, sumOf, readingsOf, fields, placed, readVerdict, solveVerdict}
+use Rattle.meaning.specs.File.{
+  numbersAt,
+  fieldVerdict,
+  headOf,
+  endAt,
+  blocksAt,
+  readingsAt,
+  blocksOf,
+  setOf,
+  sumOf,
+  readingsOf,
+  fields,
+  placed,
+  readVerdict,
+  solveVerdict,
+}
 use Rattle.laws.proofs.Chains.{opened, held, test-yes, accepts, goes-on, refused-is-not}
 use Rattle.laws.proofs.Clean.{part-length}
 
@@ -50,7 +65,8 @@ pub file-slices : (s : List ℕ) → fields s ≡ accepted → slices (headOf s)
 unfolding slices
 file-slices s e =
     let f = filed s e in
-    accepts (accepts (test-yes (sized (headOf s)) 4 0 (f .size)) (test-yes (eqb (length (blocksOf s)) (listLength (headOf s))) 3 0 (eq-eqb _ _ (blocks-long s f))))
+    accepts (accepts (test-yes (sized (headOf s)) 4 0 (f .size))
+    (test-yes (eqb (length (blocksOf s)) (listLength (headOf s))) 3 0 (eq-eqb _ _ (blocks-long s f))))
     (test-yes (eqb (length (readingsOf s)) (blocks (headOf s))) 3 0 (eq-eqb _ _ (numbers-long s (readingsAt s) (blocks (headOf s)))))
 
 -- so a direct call on what the file holds looks at its contents alone
@@ -99,7 +115,8 @@ solve-moved s words values deviations e =
     ∙ sym (placed-chain s (jobVerdict (headOf s) (blocksOf s) (readingsOf s) (setOf s) (sumOf s)) (rooms (headOf s) words values deviations))
 
 -- an accepted file holds an accepted job
-pub file-job : (s : List ℕ) → readVerdict s ≡ accepted → (fields s ≡ accepted) × (jobVerdict (headOf s) (blocksOf s) (readingsOf s) (setOf s) (sumOf s) ≡ accepted)
+pub file-job : (s : List ℕ) → readVerdict s ≡ accepted →
+    (fields s ≡ accepted) × (jobVerdict (headOf s) (blocksOf s) (readingsOf s) (setOf s) (sumOf s) ≡ accepted)
 unfolding readVerdict
 file-job s e = let a = opened _ _ e in (a .0, file-contents s (a .0) ∙ placed-accepted s _ (a .1))
 

@@ -1,5 +1,5 @@
--- Least squares over any matrix X of b rows and v columns whose rows add to 0, whose columns have the square length β(v-1) and any two of which the product -β.
--- X and its transpose are adjoint, and the transpose after X is βv less β times the sum: the rest is a few rewrites each.
+-- Least squares over any matrix X of b rows and v columns whose rows add to 0, whose columns have the square length β(v-1) and any two of which the
+-- product -β. X and its transpose are adjoint, and the transpose after X is βv less β times the sum: the rest is a few rewrites each.
 --     totals-zero, fit-length       the totals cancel; the square length of X u
 --     pythagoras                    the squares of any values are those of the solution and the squares of the difference
 --     equal-values                  X u is 0 only where all values are equal
@@ -16,7 +16,21 @@ use lib.IntN.{ℤ, pos, negℤ, _+ℤ_, _-ℤ_, _*ℤ_, +ℤ-comm, +ℤ-invl, +�
 use Rattle.algebra.specs.Ranges.{sum}
 use Rattle.algebra.proofs.Ring.{*ℤ-assoc}
 use Rattle.algebra.proofs.Solver.{_⊕_, _⊗_, _⊝_, ⊖_, #, _≐_, ring₂, ring₃, ring₄, ring₅}
-use Rattle.algebra.proofs.Sums.{sum-cong, sum-ext, sum-zero, sum-add, sum-sub, sum-scale, sum-scale-r, sum-const, sum-swap, sum-delta, sum-sq-nonneg, sum-is-zero, sum-sq-zero}
+use Rattle.algebra.proofs.Sums.{
+  sum-cong,
+  sum-ext,
+  sum-zero,
+  sum-add,
+  sum-sub,
+  sum-scale,
+  sum-scale-r,
+  sum-const,
+  sum-swap,
+  sum-delta,
+  sum-sq-nonneg,
+  sum-is-zero,
+  sum-sq-zero,
+}
 use Rattle.algebra.proofs.Order.{pos-inj, +ℤ-cancel-l, *ℤ-cancel-l, *ℤ-is-zero}
 use Rattle.meaning.specs.Analysis.{sq}
 
@@ -49,7 +63,8 @@ pub adjoint : (b v : ℕ) (X : ℕ → ℕ → ℤ) (y u : ℕ → ℤ) → sum 
 adjoint b v X y u =
     sum b (λ k. y k *ℤ fit v X u k) ≡⟨ sum-ext b _ _ (λ k. sym (sum-scale v (y k) _)) ⟩
     sum b (λ k. sum v (λ i. y k *ℤ (X k i *ℤ u i))) ≡⟨ sum-swap b v _ ⟩
-    sum v (λ i. sum b (λ k. y k *ℤ (X k i *ℤ u i))) ≡⟨ sum-ext v _ _ (λ i. sum-ext b _ _ (λ k. ring₃ (λ y x u. y ⊗ (x ⊗ u) ≐ u ⊗ (x ⊗ y)) (y k) (X k i) (u i) refl)) ⟩
+    sum v (λ i. sum b (λ k. y k *ℤ (X k i *ℤ u i))) ≡⟨ sum-ext v _ _
+    (λ i. sum-ext b _ _ (λ k. ring₃ (λ y x u. y ⊗ (x ⊗ u) ≐ u ⊗ (x ⊗ y)) (y k) (X k i) (u i) refl)) ⟩
     sum v (λ i. sum b (λ k. u i *ℤ (X k i *ℤ y k))) ≡⟨ sum-ext v _ _ (λ i. sum-scale b (u i) _) ⟩
     sum v (λ i. u i *ℤ totals b X y i) ∎
 
@@ -65,16 +80,19 @@ rows-cancel b v X rows y =
 -- X u is linear in u
 pub fit-linear : (v : ℕ) (X : ℕ → ℕ → ℤ) (p q : ℤ) (a n : ℕ → ℤ) (k : ℕ) → fit v X (λ i. p *ℤ a i -ℤ q *ℤ n i) k ≡ p *ℤ fit v X a k -ℤ q *ℤ fit v X n k
 fit-linear v X p q a n k =
-    sum v (λ i. X k i *ℤ (p *ℤ a i -ℤ q *ℤ n i)) ≡⟨ sum-ext v _ _ (λ i. ring₅ (λ x p a q n. x ⊗ (p ⊗ a ⊝ q ⊗ n) ≐ p ⊗ (x ⊗ a) ⊝ q ⊗ (x ⊗ n)) (X k i) p (a i) q (n i) refl) ⟩
+    sum v (λ i. X k i *ℤ (p *ℤ a i -ℤ q *ℤ n i)) ≡⟨ sum-ext v _ _
+    (λ i. ring₅ (λ x p a q n. x ⊗ (p ⊗ a ⊝ q ⊗ n) ≐ p ⊗ (x ⊗ a) ⊝ q ⊗ (x ⊗ n)) (X k i) p (a i) q (n i) refl) ⟩
     sum v (λ i. p *ℤ (X k i *ℤ a i) -ℤ q *ℤ (X k i *ℤ n i)) ≡⟨ sum-sub v _ _ ∙ ap₂ _-ℤ_ (sum-scale v p _) (sum-scale v q _) ⟩
     p *ℤ fit v X a k -ℤ q *ℤ fit v X n k ∎
 
 -- the sum of the squared differences of all pairs
 pub differences : (v : ℕ) (u : ℕ → ℤ) → pos 2 *ℤ (pos v *ℤ sum v (λ i. sq (u i)) -ℤ sq (sum v u)) ≡ sum v (λ i. sum v (λ j. sq (u i -ℤ u j)))
 differences v u = sym (
-    sum v (λ i. sum v (λ j. sq (u i -ℤ u j))) ≡⟨ sum-ext v _ _ (λ i. sum-ext v _ _ (λ j. ring₂ (λ a b. (a ⊝ b) ⊗ (a ⊝ b) ≐ a ⊗ a ⊕ (b ⊗ b ⊝ # 2 ⊗ a ⊗ b)) (u i) (u j) refl)) ⟩
+    sum v (λ i. sum v (λ j. sq (u i -ℤ u j))) ≡⟨ sum-ext v _ _
+    (λ i. sum-ext v _ _ (λ j. ring₂ (λ a b. (a ⊝ b) ⊗ (a ⊝ b) ≐ a ⊗ a ⊕ (b ⊗ b ⊝ # 2 ⊗ a ⊗ b)) (u i) (u j) refl)) ⟩
     sum v (λ i. sum v (λ j. sq (u i) +ℤ (sq (u j) -ℤ pos 2 *ℤ u i *ℤ u j))) ≡⟨ sum-ext v _ _ (λ i. inner i) ⟩
-    sum v (λ i. pos v *ℤ sq (u i) +ℤ (Q -ℤ pos 2 *ℤ U *ℤ u i)) ≡⟨ sum-add v _ _ ∙ ap₂ _+ℤ_ (sum-scale v (pos v) _) (sum-sub v _ _ ∙ ap₂ _-ℤ_ (sum-const v Q) (sum-scale v (pos 2 *ℤ U) u)) ⟩
+    sum v (λ i. pos v *ℤ sq (u i) +ℤ (Q -ℤ pos 2 *ℤ U *ℤ u i)) ≡⟨ sum-add v _ _
+    ∙ ap₂ _+ℤ_ (sum-scale v (pos v) _) (sum-sub v _ _ ∙ ap₂ _-ℤ_ (sum-const v Q) (sum-scale v (pos 2 *ℤ U) u)) ⟩
     pos v *ℤ Q +ℤ (pos v *ℤ Q -ℤ pos 2 *ℤ U *ℤ U) ≡⟨ ring₃ (λ v q u. v ⊗ q ⊕ (v ⊗ q ⊝ # 2 ⊗ u ⊗ u) ≐ # 2 ⊗ (v ⊗ q ⊝ u ⊗ u)) (pos v) Q U refl ⟩
     pos 2 *ℤ (pos v *ℤ Q -ℤ sq U) ∎)
   where
@@ -86,7 +104,8 @@ differences v u = sym (
 
     inner : (i : ℕ) → sum v (λ j. sq (u i) +ℤ (sq (u j) -ℤ pos 2 *ℤ u i *ℤ u j)) ≡ pos v *ℤ sq (u i) +ℤ (Q -ℤ pos 2 *ℤ U *ℤ u i)
     inner i =
-        sum-add v _ _ ∙ ap₂ _+ℤ_ (sum-const v (sq (u i))) (sum-sub v _ _ ∙ ap (λ z. Q -ℤ z) (sum-scale v (pos 2 *ℤ u i) u ∙ ring₂ (λ a s. # 2 ⊗ a ⊗ s ≐ # 2 ⊗ s ⊗ a) (u i) U refl))
+        sum-add v _ _ ∙ ap₂ _+ℤ_ (sum-const v (sq (u i)))
+        (sum-sub v _ _ ∙ ap (λ z. Q -ℤ z) (sum-scale v (pos 2 *ℤ u i) u ∙ ring₂ (λ a s. # 2 ⊗ a ⊗ s ≐ # 2 ⊗ s ⊗ a) (u i) U refl))
 
 module _ (b v β : ℕ) (X : ℕ → ℕ → ℤ) (m : Matrix b v β X) where
   -- the totals of any readings add to 0
@@ -98,10 +117,12 @@ module _ (b v β : ℕ) (X : ℕ → ℕ → ℤ) (m : Matrix b v β X) where
   normal-operator u i l =
       sum b (λ k. X k i *ℤ sum v (λ j. X k j *ℤ u j)) ≡⟨ sum-ext b _ _ (λ k. sym (sum-scale v (X k i) _)) ⟩
       sum b (λ k. sum v (λ j. X k i *ℤ (X k j *ℤ u j))) ≡⟨ sum-swap b v _ ⟩
-      sum v (λ j. sum b (λ k. X k i *ℤ (X k j *ℤ u j))) ≡⟨ sum-ext v _ _ (λ j. sum-ext b _ _ (λ k. sym (*ℤ-assoc (X k i) (X k j) (u j))) ∙ sum-scale-r b (u j) _) ⟩
+      sum v (λ j. sum b (λ k. X k i *ℤ (X k j *ℤ u j))) ≡⟨ sum-ext v _ _
+      (λ j. sum-ext b _ _ (λ k. sym (*ℤ-assoc (X k i) (X k j) (u j))) ∙ sum-scale-r b (u j) _) ⟩
       sum v (λ j. sum b (λ k. X k i *ℤ X k j) *ℤ u j) ≡⟨ sum-cong v _ _ (λ j o. ap (λ z. z *ℤ u j) (m .columns i j l o) ∙ split j (ℕ-discrete i j)) ⟩
       sum v (λ j. cond (eqb i j) (pos β *ℤ pos v *ℤ u j) (pos 0) -ℤ pos β *ℤ u j) ≡⟨ sum-sub v _ _ ⟩
-      sum v (λ j. cond (eqb i j) (pos β *ℤ pos v *ℤ u j) (pos 0)) -ℤ sum v (λ j. pos β *ℤ u j) ≡⟨ ap₂ _-ℤ_ (sum-delta v i (λ j. pos β *ℤ pos v *ℤ u j) l) (sum-scale v (pos β) u) ⟩
+      sum v (λ j. cond (eqb i j) (pos β *ℤ pos v *ℤ u j) (pos 0)) -ℤ sum v
+      (λ j. pos β *ℤ u j) ≡⟨ ap₂ _-ℤ_ (sum-delta v i (λ j. pos β *ℤ pos v *ℤ u j) l) (sum-scale v (pos β) u) ⟩
       pos β *ℤ pos v *ℤ u i -ℤ pos β *ℤ sum v u ∎
     where
       split : (j : ℕ) → Dec (i ≡ j) →
@@ -119,10 +140,14 @@ module _ (b v β : ℕ) (X : ℕ → ℕ → ℤ) (m : Matrix b v β X) where
   pub fit-length : (u : ℕ → ℤ) → sum b (λ k. sq (fit v X u k)) ≡ pos β *ℤ pos v *ℤ sum v (λ i. sq (u i)) -ℤ pos β *ℤ sq (sum v u)
   fit-length u =
       sum b (λ k. fit v X u k *ℤ fit v X u k) ≡⟨ adjoint b v X (fit v X u) u ⟩
-      sum v (λ i. u i *ℤ totals b X (fit v X u) i) ≡⟨ sum-cong v _ _ (λ i l. ap (λ z. u i *ℤ z) (normal-operator u i l) ∙ ring₄ (λ u b v s. u ⊗ (b ⊗ v ⊗ u ⊝ b ⊗ s) ≐ b ⊗ v ⊗ (u ⊗ u) ⊝ b ⊗ s ⊗ u) (u i) (pos β) (pos v) (sum v u) refl) ⟩
+      sum v (λ i. u i *ℤ totals b X (fit v X u) i) ≡⟨ sum-cong v _ _
+      (λ i l. ap (λ z. u i *ℤ z) (normal-operator u i l)
+      ∙ ring₄ (λ u b v s. u ⊗ (b ⊗ v ⊗ u ⊝ b ⊗ s) ≐ b ⊗ v ⊗ (u ⊗ u) ⊝ b ⊗ s ⊗ u) (u i) (pos β) (pos v) (sum v u) refl) ⟩
       sum v (λ i. pos β *ℤ pos v *ℤ sq (u i) -ℤ pos β *ℤ sum v u *ℤ u i) ≡⟨ sum-sub v _ _ ⟩
-      sum v (λ i. pos β *ℤ pos v *ℤ sq (u i)) -ℤ sum v (λ i. pos β *ℤ sum v u *ℤ u i) ≡⟨ ap₂ _-ℤ_ (sum-scale v (pos β *ℤ pos v) (λ i. sq (u i))) (sum-scale v (pos β *ℤ sum v u) u) ⟩
-      pos β *ℤ pos v *ℤ sum v (λ i. sq (u i)) -ℤ pos β *ℤ sum v u *ℤ sum v u ≡⟨ ap (λ z. pos β *ℤ pos v *ℤ sum v (λ i. sq (u i)) -ℤ z) (*ℤ-assoc (pos β) (sum v u) (sum v u)) ⟩
+      sum v (λ i. pos β *ℤ pos v *ℤ sq (u i)) -ℤ sum v
+      (λ i. pos β *ℤ sum v u *ℤ u i) ≡⟨ ap₂ _-ℤ_ (sum-scale v (pos β *ℤ pos v) (λ i. sq (u i))) (sum-scale v (pos β *ℤ sum v u) u) ⟩
+      pos β *ℤ pos v *ℤ sum v (λ i. sq (u i)) -ℤ pos β *ℤ sum v u *ℤ sum v u ≡⟨ ap (λ z. pos β *ℤ pos v *ℤ sum v (λ i. sq (u i)) -ℤ z)
+      (*ℤ-assoc (pos β) (sum v u) (sum v u)) ⟩
       pos β *ℤ pos v *ℤ sum v (λ i. sq (u i)) -ℤ pos β *ℤ sq (sum v u) ∎
 
   -- X u is 0 only where all values are equal
@@ -154,9 +179,11 @@ module _ (b v β : ℕ) (X : ℕ → ℕ → ℤ) (m : Matrix b v β X) where
     -- the deviations of a solution are orthogonal to every column
     pub orthogonal : (i : ℕ) → i < v → totals b X (apart v X y D N) i ≡ pos 0
     orthogonal i l =
-        sum b (λ k. X k i *ℤ (D *ℤ y k -ℤ fit v X N k)) ≡⟨ sum-ext b _ _ (λ k. ring₄ (λ x d y f. x ⊗ (d ⊗ y ⊝ f) ≐ d ⊗ (x ⊗ y) ⊝ x ⊗ f) (X k i) D (y k) (fit v X N k) refl) ⟩
+        sum b (λ k. X k i *ℤ (D *ℤ y k -ℤ fit v X N k)) ≡⟨ sum-ext b _ _
+        (λ k. ring₄ (λ x d y f. x ⊗ (d ⊗ y ⊝ f) ≐ d ⊗ (x ⊗ y) ⊝ x ⊗ f) (X k i) D (y k) (fit v X N k) refl) ⟩
         sum b (λ k. D *ℤ (X k i *ℤ y k) -ℤ X k i *ℤ fit v X N k) ≡⟨ sum-sub b _ _ ∙ ap₂ _-ℤ_ (sum-scale b D _) (normal-operator N i l) ⟩
-        D *ℤ totals b X y i -ℤ (pos β *ℤ pos v *ℤ N i -ℤ pos β *ℤ sum v N) ≡⟨ ring₅ (λ t b v n s. t ⊝ (b ⊗ v ⊗ n ⊝ s) ≐ t ⊕ s ⊝ v ⊗ b ⊗ n) (D *ℤ totals b X y i) (pos β) (pos v) (N i) (pos β *ℤ sum v N) refl ⟩
+        D *ℤ totals b X y i -ℤ (pos β *ℤ pos v *ℤ N i -ℤ pos β *ℤ sum v N) ≡⟨ ring₅ (λ t b v n s. t ⊝ (b ⊗ v ⊗ n ⊝ s) ≐ t ⊕ s ⊝ v ⊗ b ⊗ n)
+        (D *ℤ totals b X y i) (pos β) (pos v) (N i) (pos β *ℤ sum v N) refl ⟩
         D *ℤ totals b X y i +ℤ pos β *ℤ sum v N -ℤ pos v *ℤ pos β *ℤ N i ≡⟨ ap₂ _-ℤ_ (ap (λ z. D *ℤ totals b X y i +ℤ z) constant-is) (solves i l) ⟩
         D *ℤ totals b X y i +ℤ c -ℤ (D *ℤ totals b X y i +ℤ c) ≡⟨ +ℤ-invr (D *ℤ totals b X y i +ℤ c) ⟩
         pos 0 ∎
@@ -167,11 +194,16 @@ module _ (b v β : ℕ) (X : ℕ → ℕ → ℤ) (m : Matrix b v β X) where
     pythagoras e a =
         sum b (λ k. sq (apart v X y e a k)) *ℤ sq D ≡⟨ sym (sum-scale-r b (sq D) (λ k. sq (apart v X y e a k))) ⟩
         sum b (λ k. sq (apart v X y e a k) *ℤ sq D) ≡⟨ sum-ext b _ _ (λ k.
-        ring₅ (λ e y f d n. (e ⊗ y ⊝ f) ⊗ (e ⊗ y ⊝ f) ⊗ (d ⊗ d) ≐ (e ⊗ e) ⊗ ((d ⊗ y ⊝ n) ⊗ (d ⊗ y ⊝ n)) ⊕ ((d ⊗ f ⊝ e ⊗ n) ⊗ (d ⊗ f ⊝ e ⊗ n) ⊝ (# 2 ⊗ e) ⊗ ((d ⊗ y ⊝ n) ⊗ (d ⊗ f ⊝ e ⊗ n))))
+        ring₅ (λ e y f d n. (e ⊗ y ⊝ f) ⊗ (e ⊗ y ⊝ f) ⊗ (d ⊗ d) ≐ (e ⊗ e) ⊗ ((d ⊗ y ⊝ n) ⊗ (d ⊗ y ⊝ n)) ⊕
+        ((d ⊗ f ⊝ e ⊗ n) ⊗ (d ⊗ f ⊝ e ⊗ n) ⊝ (# 2 ⊗ e) ⊗ ((d ⊗ y ⊝ n) ⊗ (d ⊗ f ⊝ e ⊗ n))))
         e (y k) (fit v X a k) D (fit v X N k) refl
         ∙ ap (λ z. sq e *ℤ sq (apart v X y D N k) +ℤ (z *ℤ z -ℤ pos 2 *ℤ e *ℤ (apart v X y D N k *ℤ z))) (sym (fit-linear v X D e a N k))) ⟩
-        sum b (λ k. sq e *ℤ sq (apart v X y D N k) +ℤ (sq (fit v X u k) -ℤ pos 2 *ℤ e *ℤ (apart v X y D N k *ℤ fit v X u k))) ≡⟨ sum-add b _ _ ∙ ap₂ _+ℤ_ (sum-scale b (sq e) _) (sum-sub b _ _ ∙ ap (λ z. sum b (λ k. sq (fit v X u k)) -ℤ z) (sum-scale b (pos 2 *ℤ e) _ ∙ ap (λ z. pos 2 *ℤ e *ℤ z) cross)) ⟩
-        sq e *ℤ sum b (λ k. sq (apart v X y D N k)) +ℤ (sum b (λ k. sq (fit v X u k)) -ℤ pos 2 *ℤ e *ℤ pos 0) ≡⟨ ring₃ (λ s t e. s ⊕ (t ⊝ # 2 ⊗ e ⊗ # 0) ≐ s ⊕ t) (sq e *ℤ sum b (λ k. sq (apart v X y D N k))) (sum b (λ k. sq (fit v X u k))) e refl ⟩
+        sum b (λ k. sq e *ℤ sq (apart v X y D N k) +ℤ (sq (fit v X u k) -ℤ pos 2 *ℤ e *ℤ (apart v X y D N k *ℤ fit v X u k))) ≡⟨ sum-add b _ _
+        ∙ ap₂ _+ℤ_ (sum-scale b (sq e) _)
+        (sum-sub b _ _ ∙ ap (λ z. sum b (λ k. sq (fit v X u k)) -ℤ z) (sum-scale b (pos 2 *ℤ e) _ ∙ ap (λ z. pos 2 *ℤ e *ℤ z) cross)) ⟩
+        sq e *ℤ sum b (λ k. sq (apart v X y D N k)) +ℤ
+        (sum b (λ k. sq (fit v X u k)) -ℤ pos 2 *ℤ e *ℤ pos 0) ≡⟨ ring₃ (λ s t e. s ⊕ (t ⊝ # 2 ⊗ e ⊗ # 0) ≐ s ⊕ t)
+        (sq e *ℤ sum b (λ k. sq (apart v X y D N k))) (sum b (λ k. sq (fit v X u k))) e refl ⟩
         sq e *ℤ sum b (λ k. sq (apart v X y D N k)) +ℤ sum b (λ k. sq (fit v X u k)) ∎
       where
         u : ℕ → ℤ

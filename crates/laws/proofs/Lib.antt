@@ -1,4 +1,4 @@
--- What follows from the definitions of the base: one file a subject, each over the files before it.
+-- What follows from the definitions of the base: one file a subject, each over the files before it. From Bytes on: a job's file and its listing.
 pub mod Chains
 pub mod Occurrences
 pub mod Clean
@@ -12,3 +12,9 @@ pub mod Analysis
 pub mod Rounding
 pub mod Sizes
 pub mod Files
+pub mod Fractions
+pub mod Bytes
+pub mod Writing
+pub mod Lengths
+pub mod Enough
+pub mod Cut

@@ -1,4 +1,5 @@
--- The signs of a balanced design are a matrix of least squares: company less opposition is the product of two columns, and a row adds to p less p. Assumes nothing.
+-- The signs of a balanced design are a matrix of least squares: company less opposition is the product of two columns, and a row adds to p less p.
+-- Assumes nothing.
 use mathlib.Core.Path.{_≡_, refl, sym, _∙_, ap, ap₂}
 use mathlib.Core.Bool.{Bool, true, cond}
 use mathlib.Core.List.{List}
@@ -44,7 +45,8 @@ pub columns-product : (h : Head) (d : List ℕ) (i j : ℕ) → sum (blocks h) (
 unfolding company opposition
 columns-product h d i j =
     sum-ext (blocks h) _ (λ k. pos (shares k) -ℤ pos (opposes k))
-    (λ k. ring₄ (λ a c e f. (a ⊝ c) ⊗ (e ⊝ f) ≐ (a ⊗ e ⊕ c ⊗ f) ⊝ (a ⊗ f ⊕ c ⊗ e)) (pos (occ i (left h d k))) (pos (occ i (right h d k))) (pos (occ j (left h d k))) (pos (occ j (right h d k))) refl)
+    (λ k. ring₄ (λ a c e f. (a ⊝ c) ⊗ (e ⊝ f) ≐ (a ⊗ e ⊕ c ⊗ f) ⊝ (a ⊗ f ⊕ c ⊗ e)) (pos (occ i (left h d k))) (pos (occ i (right h d k)))
+    (pos (occ j (left h d k))) (pos (occ j (right h d k))) refl)
     ∙ sum-sub (blocks h) (λ k. pos (shares k)) (λ k. pos (opposes k))
     ∙ sym (ap₂ _-ℤ_ (pos-sum (blocks h) shares) (pos-sum (blocks h) opposes))
   where
@@ -69,7 +71,8 @@ design-matrix h d s e = record { columns = columns; rows = signs-cancel h d s }
         sum (blocks h) (λ k. sign h d k i *ℤ sign h d k j) ≡ cond (eqb i j) (pos (beta h d) *ℤ (pos (objects h) -ℤ pos 1)) (negℤ (pos (beta h d)))
     columns i j m o = columns-product h d i j ∙ go (ℕ-discrete i j)
       where
-        go : Dec (i ≡ j) → pos (company h d i j) -ℤ pos (opposition h d i j) ≡ cond (eqb i j) (pos (beta h d) *ℤ (pos (objects h) -ℤ pos 1)) (negℤ (pos (beta h d)))
+        go : Dec (i ≡ j) → pos (company h d i j) -ℤ pos (opposition h d i j) ≡ cond (eqb i j) (pos (beta h d) *ℤ (pos (objects h) -ℤ pos 1))
+            (negℤ (pos (beta h d)))
         go (yes q) =
             ap (λ (x : ℕ). pos (company h d i x) -ℤ pos (opposition h d i x)) (sym q)
             ∙ ap₂ (λ (x y : ℕ). pos x -ℤ pos y) (c .repeats i m) (opposition-self h d s i m)

@@ -1,4 +1,5 @@
--- How often a number stands in a list: of elements below v the counts add to the length; a map that is injective on them changes no count; a list without repeats has every number at most once. Assumes nothing.
+-- How often a number stands in a list: of elements below v the counts add to the length; a map that is injective on them changes no count; a list
+-- without repeats has every number at most once. Assumes nothing.
 use mathlib.Core.Path.{_≡_, refl, sym, _∙_, ap, ap₂}
 use mathlib.Core.Bool.{Bool, cond}
 use mathlib.Core.List.{List, [], _∷_, _++_, map}

@@ -15,7 +15,7 @@ use lib.Pow.{pow-add}
 use borrow.Author.Tests.{lt-ltb, le-ltb, le-leb, lt-leb}
 use Rattle.algebra.proofs.Solver.{_⊗_, _⊝_, ⊖_, #, _≐_, ring₂, ring₃}
 use Rattle.algebra.proofs.Order.{pos-sub}
-use Rattle.algebra.proofs.Bounds.{abs-neg}
+use Rattle.algebra.proofs.Bounds.{abs-*, abs-neg}
 use Rattle.meaning.specs.Publishing.{signed, minus, nearest, nearestHundredths}
 use Rattle.meaning.specs.Analysis.{root, spreadHundredths}
 
@@ -39,19 +39,23 @@ nearest-is a d l = go (decLt (2 * (a % d)) d) (decLt d (2 * (a % d)))
     small = mod-lt a l
 
     go : Dec (2 * (a % d) < d) → Dec (d < 2 * (a % d)) → Nearest a d (nearest a d)
-    go (yes o) z = subst (Nearest a d) (sym (ap (λ (t : Bool). cond t (a / d) (cond (ltb d (2 * (a % d))) (a / d + 1) (a / d + a / d % 2))) (lt-ltb _ _ o))) (record {
-      above = omega (arith, parts);
-      below = omega (arith, parts);
-      even-above = λ e. omega (arith, parts, e);
-      even-below = λ e. omega (arith, parts, e);
-    })
-    go (no o) (yes z) = subst (Nearest a d) (sym (ap₂ (λ (t u : Bool). cond t (a / d) (cond u (a / d + 1) (a / d + a / d % 2))) (le-ltb (2 * (a % d)) d (omega arith)) (lt-ltb _ _ z))) (record {
-      above = omega (arith, parts, small);
-      below = omega (arith, parts, small);
-      even-above = λ e. omega (arith, parts, small, e);
-      even-below = λ e. omega (arith, parts, small, e);
-    })
-    go (no o) (no z) = subst (Nearest a d) (sym (ap₂ (λ (t u : Bool). cond t (a / d) (cond u (a / d + 1) (a / d + a / d % 2))) (le-ltb (2 * (a % d)) d (omega arith)) (le-ltb d (2 * (a % d)) (omega arith)))) (half (a / d) (a / d % 2) parts even bit)
+    go (yes o) z = subst (Nearest a d)
+        (sym (ap (λ (t : Bool). cond t (a / d) (cond (ltb d (2 * (a % d))) (a / d + 1) (a / d + a / d % 2))) (lt-ltb _ _ o))) (record {
+          above = omega (arith, parts);
+          below = omega (arith, parts);
+          even-above = λ e. omega (arith, parts, e);
+          even-below = λ e. omega (arith, parts, e);
+        })
+    go (no o) (yes z) = subst (Nearest a d)
+        (sym (ap₂ (λ (t u : Bool). cond t (a / d) (cond u (a / d + 1) (a / d + a / d % 2))) (le-ltb (2 * (a % d)) d (omega arith)) (lt-ltb _ _ z))) (record {
+          above = omega (arith, parts, small);
+          below = omega (arith, parts, small);
+          even-above = λ e. omega (arith, parts, small, e);
+          even-below = λ e. omega (arith, parts, small, e);
+        })
+    go (no o) (no z) = subst (Nearest a d)
+        (sym (ap₂ (λ (t u : Bool). cond t (a / d) (cond u (a / d + 1) (a / d + a / d % 2))) (le-ltb (2 * (a % d)) d (omega arith))
+        (le-ltb d (2 * (a % d)) (omega arith)))) (half (a / d) (a / d % 2) parts even bit)
       where
         bit : a / d % 2 ≤ 1
         bit = omega (arith, mod-lt (a / d) {m = 2} (omega arith))
@@ -99,7 +103,12 @@ gap-most a b c p r = go (decLe b a)
   where
     go : Dec (b ≤ a) → natAbs (pos a -ℤ pos b) ≤ c
     go (yes o) = omega (arith, ap natAbs (pos-sub a b o))
-    go (no o) = omega (arith, ap natAbs (pos-sub b a (omega arith)), ap natAbs (ring₂ (λ a b. a ⊝ b ≐ ⊖ (b ⊝ a)) (pos a) (pos b) refl), abs-neg (pos b -ℤ pos a))
+    go (no o) = omega (
+      arith,
+      ap natAbs (pos-sub b a (omega arith)),
+      ap natAbs (ring₂ (λ a b. a ⊝ b ≐ ⊖ (b ⊝ a)) (pos a) (pos b) refl),
+      abs-neg (pos b -ℤ pos a),
+    )
 
 -- and how far, exactly
 gap-exact : (a b c : ℕ) → natAbs (pos a -ℤ pos b) ≡ c → (a ≡ b + c) ⊎ (b ≡ a + c)
@@ -107,19 +116,33 @@ gap-exact a b c e = go (decLe b a)
   where
     go : Dec (b ≤ a) → (a ≡ b + c) ⊎ (b ≡ a + c)
     go (yes o) = inl (omega (arith, ap natAbs (pos-sub a b o)))
-    go (no o) = inr (omega (arith, ap natAbs (pos-sub b a (omega arith)), ap natAbs (ring₂ (λ a b. a ⊝ b ≐ ⊖ (b ⊝ a)) (pos a) (pos b) refl), abs-neg (pos b -ℤ pos a)))
+    go (no o) = inr (omega (
+      arith,
+      ap natAbs (pos-sub b a (omega arith)),
+      ap natAbs (ring₂ (λ a b. a ⊝ b ≐ ⊖ (b ⊝ a)) (pos a) (pos b) refl),
+      abs-neg (pos b -ℤ pos a),
+    ))
 
 -- twice the distance from the fraction to its hundredths, in the same size below zero as above
-distance : (a : ℤ) (d : ℕ) → natAbs (pos 2 *ℤ (pos 100 *ℤ a -ℤ nearestHundredths a d *ℤ pos d)) ≡ natAbs (pos (2 * (100 * natAbs a)) -ℤ pos (2 * (nearest (100 * natAbs a) d * d)))
+distance : (a : ℤ) (d : ℕ) → natAbs (pos 2 *ℤ (pos 100 *ℤ a -ℤ nearestHundredths a d *ℤ pos d)) ≡ natAbs
+    (pos (2 * (100 * natAbs a)) -ℤ pos (2 * (nearest (100 * natAbs a) d * d)))
 distance (pos n) d = ap natAbs (ring₃ (λ a k d. # 2 ⊗ (# 100 ⊗ a ⊝ k ⊗ d) ≐ # 2 ⊗ (# 100 ⊗ a) ⊝ # 2 ⊗ (k ⊗ d)) (pos n) (pos (nearest (100 * n) d)) (pos d) refl)
 distance (negsuc n) d =
-    ap natAbs (ring₃ (λ a k d. # 2 ⊗ (# 100 ⊗ (⊖ a) ⊝ (⊖ k) ⊗ d) ≐ ⊖ (# 2 ⊗ (# 100 ⊗ a) ⊝ # 2 ⊗ (k ⊗ d))) (pos (suc n)) (pos (nearest (100 * suc n) d)) (pos d) refl)
+    ap natAbs (ring₃ (λ a k d. # 2 ⊗ (# 100 ⊗ (⊖ a) ⊝ (⊖ k) ⊗ d) ≐ ⊖ (# 2 ⊗ (# 100 ⊗ a) ⊝ # 2 ⊗ (k ⊗ d))) (pos (suc n))
+    (pos (nearest (100 * suc n) d)) (pos d) refl)
     ∙ abs-neg (pos (2 * (100 * suc n)) -ℤ pos (2 * (nearest (100 * suc n) d * d)))
 
 -- the hundredths of a / d are at most a half away from 100 a / d
 pub published-near : (a : ℤ) (d : ℕ) → 0 < d → natAbs (pos 2 *ℤ (pos 100 *ℤ a -ℤ nearestHundredths a d *ℤ pos d)) ≤ d
 published-near a d l = let n = nearest-is (100 * natAbs a) d l in
     subst (λ (z : ℕ). z ≤ d) (sym (distance a d)) (gap-most (2 * (100 * natAbs a)) (2 * (nearest (100 * natAbs a) d * d)) d (n .above) (n .below))
+
+-- the same distance as a difference of two fractions has it: x hundredths less a / d, over 100 d
+pub twice-apart : (a x : ℤ) (d : ℕ) → natAbs (pos 2 *ℤ (pos 100 *ℤ a -ℤ x *ℤ pos d)) ≡ 2 * natAbs (x *ℤ pos d -ℤ a *ℤ pos 100)
+twice-apart a x d =
+    abs-* (pos 2) (pos 100 *ℤ a -ℤ x *ℤ pos d)
+    ∙ ap (λ (n : ℕ). 2 * n)
+    (ap natAbs (ring₃ (λ a x d. # 100 ⊗ a ⊝ x ⊗ d ≐ ⊖ (x ⊗ d ⊝ a ⊗ # 100)) a x (pos d) refl) ∙ abs-neg (x *ℤ pos d -ℤ a *ℤ pos 100))
 
 -- the size of a number with a sign
 pub signed-size : (b : Bool) (n : ℕ) → natAbs (signed b n) ≡ n
@@ -135,7 +158,8 @@ published-even a d l e =
     n : Nearest (100 * natAbs a) d (nearest (100 * natAbs a) d)
     n = nearest-is (100 * natAbs a) d l
 
-    go : (2 * (100 * natAbs a) ≡ 2 * (nearest (100 * natAbs a) d * d) + d) ⊎ (2 * (nearest (100 * natAbs a) d * d) ≡ 2 * (100 * natAbs a) + d) → nearest (100 * natAbs a) d % 2 ≡ 0
+    go : (2 * (100 * natAbs a) ≡ 2 * (nearest (100 * natAbs a) d * d) + d) ⊎ (2 * (nearest (100 * natAbs a) d * d) ≡ 2 * (100 * natAbs a) + d) →
+        nearest (100 * natAbs a) d % 2 ≡ 0
     go (inl p) = n .even-above p
     go (inr p) = n .even-below p
 
@@ -159,9 +183,11 @@ root-largest (suc s) x l = go (decLe ((2 * r + 1) * (2 * r + 1)) x) (root-larges
     go : Dec ((2 * r + 1) * (2 * r + 1) ≤ x) → (r * r ≤ x / 4) × (x / 4 < (r + 1) * (r + 1)) →
         (cond (leb ((2 * r + 1) * (2 * r + 1)) x) (2 * r + 1) (2 * r) * cond (leb ((2 * r + 1) * (2 * r + 1)) x) (2 * r + 1) (2 * r) ≤ x)
         × (x < (cond (leb ((2 * r + 1) * (2 * r + 1)) x) (2 * r + 1) (2 * r) + 1) * (cond (leb ((2 * r + 1) * (2 * r + 1)) x) (2 * r + 1) (2 * r) + 1))
-    go (yes o) (a, b) = subst (λ (t : Bool). (cond t (2 * r + 1) (2 * r) * cond t (2 * r + 1) (2 * r) ≤ x) × (x < (cond t (2 * r + 1) (2 * r) + 1) * (cond t (2 * r + 1) (2 * r) + 1))) (sym (le-leb _ _ o))
+    go (yes o) (a, b) = subst (λ (t : Bool). (cond t (2 * r + 1) (2 * r) * cond t (2 * r + 1) (2 * r) ≤ x) ×
+        (x < (cond t (2 * r + 1) (2 * r) + 1) * (cond t (2 * r + 1) (2 * r) + 1))) (sym (le-leb _ _ o))
         (o, omega (arith, b))
-    go (no o) (a, b) = subst (λ (t : Bool). (cond t (2 * r + 1) (2 * r) * cond t (2 * r + 1) (2 * r) ≤ x) × (x < (cond t (2 * r + 1) (2 * r) + 1) * (cond t (2 * r + 1) (2 * r) + 1))) (sym (lt-leb _ x (omega arith)))
+    go (no o) (a, b) = subst (λ (t : Bool). (cond t (2 * r + 1) (2 * r) * cond t (2 * r + 1) (2 * r) ≤ x) ×
+        (x < (cond t (2 * r + 1) (2 * r) + 1) * (cond t (2 * r + 1) (2 * r) + 1))) (sym (lt-leb _ x (omega arith)))
         (omega (arith, a), omega arith)
 
 -- two numbers that are each the largest are one

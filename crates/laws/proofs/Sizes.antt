@@ -1,4 +1,5 @@
--- How large the numbers of an accepted job are over the whole range of the request: they all fit 64 bits, but for 10,000 Q, and what is cast to an f64 is below 2^53.
+-- How large the numbers of an accepted job are over the whole range of the request: they all fit 64 bits, but for 10,000 Q, and what is cast to an
+-- f64 is below 2^53.
 --     repeats-most, vbeta-most                           β(v-1) is at most b, so vβ is at most 2,600
 --     total-most, restrained-most, difference-most       sums over blocks, over the restraint set, over a block
 --     numerator-most, denominator-most, deviation-most   what is listLength
@@ -21,7 +22,27 @@ use Rattle.algebra.proofs.Sums.{sum-sq-nonneg}
 use Rattle.algebra.proofs.Bounds.{abs-*, abs-+, abs-sub, abs-*-le, abs-mono, abs-square, abs-sum, abs-weighted}
 use Rattle.records.specs.declared.Head.{Head}
 use Rattle.meaning.specs.Design.{objects, blocks, occ, left, right, balanced, beta}
-use Rattle.meaning.specs.Analysis.{sq, reading, sign, total, member, members, restrained, vbeta, numeratorOf, denominatorOf, difference, deviationOf, squaredReadings, squaredTotals, q, qOf, freedom, spreadHundredths, spreadHundredthsOf}
+use Rattle.meaning.specs.Analysis.{
+  sq,
+  reading,
+  sign,
+  total,
+  member,
+  members,
+  restrained,
+  vbeta,
+  numeratorOf,
+  denominatorOf,
+  difference,
+  deviationOf,
+  squaredReadings,
+  squaredTotals,
+  q,
+  qOf,
+  freedom,
+  spreadHundredths,
+  spreadHundredthsOf,
+}
 use Rattle.meaning.specs.Publishing.{minus, nearest, published}
 use Rattle.laws.proofs.Chains.{Sound, Readings}
 use Rattle.laws.proofs.Clean.{block-once}
@@ -30,6 +51,8 @@ use Rattle.laws.proofs.Counting.{incidence, parameters}
 use Rattle.laws.proofs.Matrix.{difference-signs}
 use Rattle.laws.proofs.Solution.{members-most}
 use Rattle.laws.proofs.Analysis.{q-nonneg, vbeta-some}
+use Rattle.meaning.specs.Refusals.{readingLimit, sumLimit}
+use Rattle.laws.specs.Limits.{totalLimit}
 use Rattle.laws.proofs.Rounding.{Nearest, nearest-is, signed-size, spread-largest}
 
 -- ---- the parameters
@@ -46,7 +69,8 @@ module _ (h : Head) (d : List ℕ) (s : Sound h d) (e : balanced h d ≡ true) w
 
   -- vβ is at most 2,600
   pub vbeta-most : vbeta h d ≤ 2600
-  vbeta-most = go (beta h d) (objects h) (objects h - 1) (omega (arith, s .sizes .n-least)) (omega (arith, s .sizes .n-least)) (omega (arith, repeats-most, s .sizes .blocks-most))
+  vbeta-most = go (beta h d) (objects h) (objects h - 1) (omega (arith, s .sizes .n-least)) (omega (arith, s .sizes .n-least))
+      (omega (arith, repeats-most, s .sizes .blocks-most))
     where
       go : (β v w : ℕ) → v ≡ w + 1 → 1 ≤ w → β * w ≤ 1300 → v * β ≤ 2600
       go β v w a b c = omega (arith, ap (λ (z : ℕ). z * β) a, mul-le-mul-left β b)
@@ -70,7 +94,8 @@ module _ (h : Head) (d : List ℕ) (s : Sound h d) where
   difference-most B f k l most = omega (
     arith,
     ap natAbs (difference-signs h d s f k l),
-    abs-weighted (objects h) B (sign h d k) f (λ i. occ i (left h d k) + occ i (right h d k)) (λ i o. abs-sub (pos (occ i (left h d k))) (pos (occ i (right h d k)))) most,
+    abs-weighted (objects h) B (sign h d k) f (λ i. occ i (left h d k) + occ i (right h d k))
+        (λ i o. abs-sub (pos (occ i (left h d k))) (pos (occ i (right h d k)))) most,
     mul-le-mul-left B few,
   )
     where
@@ -84,12 +109,12 @@ module _ (h : Head) (d : List ℕ) (s : Sound h d) where
 
   module _ (y : List ℤ) (r : Readings h y) where
     -- a total so far, after c blocks
-    pub total-partial : (c i : ℕ) → c ≤ blocks h → natAbs (sum c (λ k. sign h d k i *ℤ reading y k)) ≤ c * 200000
-    total-partial c i m = abs-sum c 200000 (λ k. sign h d k i *ℤ reading y k)
-        (λ k l. abs-*-le (sign h d k i) (reading y k) 1 200000 (sign-most k i (omega arith)) (r .readings-most k (omega arith)))
+    pub total-partial : (c i : ℕ) → c ≤ blocks h → natAbs (sum c (λ k. sign h d k i *ℤ reading y k)) ≤ c * readingLimit
+    total-partial c i m = abs-sum c readingLimit (λ k. sign h d k i *ℤ reading y k)
+        (λ k l. abs-*-le (sign h d k i) (reading y k) 1 readingLimit (sign-most k i (omega arith)) (r .readings-most k (omega arith)))
 
     -- a total
-    pub total-most : (i : ℕ) → natAbs (total h d y i) ≤ 260000000
+    pub total-most : (i : ℕ) → natAbs (total h d y i) ≤ totalLimit
     unfolding total
     total-most i = omega (arith, total-partial (blocks h) i (omega arith), s .sizes .blocks-most)
 
@@ -98,7 +123,7 @@ module _ (h : Head) (d : List ℕ) (s : Sound h d) where
     unfolding restrained members
     restrained-most c w m = omega (
       arith,
-      abs-weighted c 260000000 (λ i. pos (member w i)) (total h d y) (member w) (λ i l. omega arith) (λ i l. total-most i),
+      abs-weighted c totalLimit (λ i. pos (member w i)) (total h d y) (member w) (λ i l. omega arith) (λ i l. total-most i),
       members-most c w,
       s .sizes .objects-most,
     )
@@ -108,7 +133,7 @@ module _ (h : Head) (d : List ℕ) (s : Sound h d) where
     unfolding squaredReadings
     squared-readings-most = omega (
       arith,
-      abs-sum (blocks h) 40000000000 (λ k. sq (reading y k)) (λ k l. abs-square (reading y k) 200000 (r .readings-most k l)),
+      abs-sum (blocks h) 40000000000 (λ k. sq (reading y k)) (λ k l. abs-square (reading y k) readingLimit (r .readings-most k l)),
       s .sizes .blocks-most,
     )
 
@@ -117,13 +142,13 @@ module _ (h : Head) (d : List ℕ) (s : Sound h d) where
     unfolding squaredTotals
     squared-totals-most = omega (
       arith,
-      abs-sum (objects h) 67600000000000000 (λ i. sq (total h d y i)) (λ i l. abs-square (total h d y i) 260000000 (total-most i)),
+      abs-sum (objects h) 67600000000000000 (λ i. sq (total h d y i)) (λ i l. abs-square (total h d y i) totalLimit (total-most i)),
       s .sizes .objects-most,
     )
 
     module _ (e : balanced h d ≡ true) where
       -- a value's numerator
-      pub numerator-most : (w : ℕ) (M : ℤ) (i : ℕ) → natAbs M ≤ 1000000000 → natAbs (numeratorOf h d y w M i) ≤ 2626000000000
+      pub numerator-most : (w : ℕ) (M : ℤ) (i : ℕ) → natAbs M ≤ sumLimit → natAbs (numeratorOf h d y w M i) ≤ 2626000000000
       unfolding numeratorOf
       numerator-most w M i m =
           let t : members (objects h) w ≤ 50 = omega (arith, members-most (objects h) w, s .sizes .objects-most) in
@@ -131,16 +156,17 @@ module _ (h : Head) (d : List ℕ) (s : Sound h d) where
             arith,
             abs-+ (pos (members (objects h) w) *ℤ total h d y i -ℤ restrained (objects h) w (total h d y)) (pos (vbeta h d) *ℤ M),
             abs-sub (pos (members (objects h) w) *ℤ total h d y i) (restrained (objects h) w (total h d y)),
-            abs-*-le (pos (members (objects h) w)) (total h d y i) 50 260000000 t (total-most i),
+            abs-*-le (pos (members (objects h) w)) (total h d y i) 50 totalLimit t (total-most i),
             restrained-most (objects h) w (omega arith),
-            abs-*-le (pos (vbeta h d)) M 2600 1000000000 (vbeta-most h d s e) m,
+            abs-*-le (pos (vbeta h d)) M 2600 sumLimit (vbeta-most h d s e) m,
           )
 
       -- published hundredths
-      pub published-most : (w : ℕ) (M : ℤ) (i : ℕ) → 0 < denominatorOf h d w → natAbs M ≤ 1000000000 → natAbs (published h d y w M i) ≤ 262600000000001
+      pub published-most : (w : ℕ) (M : ℤ) (i : ℕ) → 0 < denominatorOf h d w → natAbs M ≤ sumLimit → natAbs (published h d y w M i) ≤ 262600000000001
       unfolding published
       published-most w M i l m = most (100 * natAbs (numeratorOf h d y w M i)) (denominatorOf h d w) _ l (nearest-is _ (denominatorOf h d w) l)
-          (signed-size (minus (numeratorOf h d y w M i)) (nearest (100 * natAbs (numeratorOf h d y w M i)) (denominatorOf h d w))) (omega (arith, numerator-most w M i m))
+          (signed-size (minus (numeratorOf h d y w M i)) (nearest (100 * natAbs (numeratorOf h d y w M i)) (denominatorOf h d w)))
+          (omega (arith, numerator-most w M i m))
         where
           most : (a c n : ℕ) {x : ℕ} → 0 < c → Nearest a c n → x ≡ n → a ≤ 262600000000000 → x ≤ 262600000000001
           most a c n l near e m = omega (arith, go (decLt (a + 1) n))
@@ -155,8 +181,8 @@ module _ (h : Head) (d : List ℕ) (s : Sound h d) where
       deviation-most k l = omega (
         arith,
         abs-sub (pos (vbeta h d) *ℤ reading y k) (difference h d (total h d y) k),
-        abs-*-le (pos (vbeta h d)) (reading y k) 2600 200000 (vbeta-most h d s e) (r .readings-most k l),
-        difference-most 260000000 (total h d y) k l (λ i m. total-most i),
+        abs-*-le (pos (vbeta h d)) (reading y k) 2600 readingLimit (vbeta-most h d s e) (r .readings-most k l),
+        difference-most totalLimit (total h d y) k l (λ i m. total-most i),
       )
 
       -- Q, by vβ

@@ -1,5 +1,6 @@
--- The values of a job over any matrix of least squares: they keep the restraint, their squares add to Q over vβ, any other values that keep the restraint have larger ones, and hundredths have hardly larger ones.
--- Values are whole-number fractions: v numerators over one denominator. Assumes nothing.
+-- The values of a job over any matrix of least squares: they keep the restraint, their squares add to Q over vβ, any other values that keep the
+-- restraint have larger ones, and hundredths have hardly larger ones. Values are whole-number fractions: v numerators over one denominator. Assumes
+-- nothing.
 use mathlib.Core.Path.{_≡_, refl, sym, _∙_, ap, ap₂, subst, subst₂, _≡⟨_⟩_, _∎}
 use mathlib.Core.Logic.{⊎-elim}
 use Prim.Native.Nat.{ℕ, zero, suc, _+_, _*_, _/_, _%_, _^_, _≤_, _<_}
@@ -78,8 +79,10 @@ squares b v X y e a = sum b (λ k. sq (apart v X y e a k))
 pub top-kept : (v β w : ℕ) (M : ℤ) (T : ℕ → ℤ) → restrained v w (top v β w M T) ≡ M *ℤ pos (bottom v β w)
 unfolding restrained
 top-kept v β w M T =
-    sum v (λ i. pos (member w i) *ℤ (t *ℤ T i -ℤ S +ℤ pos (v * β) *ℤ M)) ≡⟨ sum-ext v _ _ (λ i. ring₅ (λ c t x s m. c ⊗ (t ⊗ x ⊝ s ⊕ m) ≐ t ⊗ (c ⊗ x) ⊕ c ⊗ (m ⊝ s)) (pos (member w i)) t (T i) S (pos (v * β) *ℤ M) refl) ⟩
-    sum v (λ i. t *ℤ (pos (member w i) *ℤ T i) +ℤ pos (member w i) *ℤ (pos (v * β) *ℤ M -ℤ S)) ≡⟨ sum-add v _ _ ∙ ap₂ _+ℤ_ (sum-scale v t _) (restrained-const v w (pos (v * β) *ℤ M -ℤ S)) ⟩
+    sum v (λ i. pos (member w i) *ℤ (t *ℤ T i -ℤ S +ℤ pos (v * β) *ℤ M)) ≡⟨ sum-ext v _ _
+    (λ i. ring₅ (λ c t x s m. c ⊗ (t ⊗ x ⊝ s ⊕ m) ≐ t ⊗ (c ⊗ x) ⊕ c ⊗ (m ⊝ s)) (pos (member w i)) t (T i) S (pos (v * β) *ℤ M) refl) ⟩
+    sum v (λ i. t *ℤ (pos (member w i) *ℤ T i) +ℤ pos (member w i) *ℤ (pos (v * β) *ℤ M -ℤ S)) ≡⟨ sum-add v _ _
+    ∙ ap₂ _+ℤ_ (sum-scale v t _) (restrained-const v w (pos (v * β) *ℤ M -ℤ S)) ⟩
     t *ℤ S +ℤ t *ℤ (pos (v * β) *ℤ M -ℤ S) ≡⟨ ring₅ (λ t s v b m. t ⊗ s ⊕ t ⊗ (v ⊗ b ⊗ m ⊝ s) ≐ m ⊗ (t ⊗ (v ⊗ b))) t S (pos v) (pos β) M refl ⟩
     M *ℤ pos (bottom v β w) ∎
   where
@@ -93,8 +96,10 @@ top-kept v β w M T =
 pub fitted : (v β : ℕ) (X : ℕ → ℕ → ℤ) (w : ℕ) (M : ℤ) (T : ℕ → ℤ) (k : ℕ) → sum v (λ i. X k i) ≡ pos 0 →
     fit v X (top v β w M T) k ≡ pos (members v w) *ℤ fit v X T k
 fitted v β X w M T k row =
-    sum v (λ i. X k i *ℤ (t *ℤ T i -ℤ S +ℤ pos (v * β) *ℤ M)) ≡⟨ sum-ext v _ _ (λ i. ring₅ (λ x t a s m. x ⊗ (t ⊗ a ⊝ s ⊕ m) ≐ t ⊗ (x ⊗ a) ⊕ x ⊗ (m ⊝ s)) (X k i) t (T i) S (pos (v * β) *ℤ M) refl) ⟩
-    sum v (λ i. t *ℤ (X k i *ℤ T i) +ℤ X k i *ℤ (pos (v * β) *ℤ M -ℤ S)) ≡⟨ sum-add v _ _ ∙ ap₂ _+ℤ_ (sum-scale v t _) (sum-scale-r v (pos (v * β) *ℤ M -ℤ S) (X k) ∙ ap (λ z. z *ℤ (pos (v * β) *ℤ M -ℤ S)) row) ⟩
+    sum v (λ i. X k i *ℤ (t *ℤ T i -ℤ S +ℤ pos (v * β) *ℤ M)) ≡⟨ sum-ext v _ _
+    (λ i. ring₅ (λ x t a s m. x ⊗ (t ⊗ a ⊝ s ⊕ m) ≐ t ⊗ (x ⊗ a) ⊕ x ⊗ (m ⊝ s)) (X k i) t (T i) S (pos (v * β) *ℤ M) refl) ⟩
+    sum v (λ i. t *ℤ (X k i *ℤ T i) +ℤ X k i *ℤ (pos (v * β) *ℤ M -ℤ S)) ≡⟨ sum-add v _ _
+    ∙ ap₂ _+ℤ_ (sum-scale v t _) (sum-scale-r v (pos (v * β) *ℤ M -ℤ S) (X k) ∙ ap (λ z. z *ℤ (pos (v * β) *ℤ M -ℤ S)) row) ⟩
     t *ℤ fit v X T k +ℤ pos 0 *ℤ (pos (v * β) *ℤ M -ℤ S) ≡⟨ ring₂ (λ f m. f ⊕ # 0 ⊗ m ≐ f) (t *ℤ fit v X T k) (pos (v * β) *ℤ M -ℤ S) refl ⟩
     t *ℤ fit v X T k ∎
   where
@@ -135,7 +140,8 @@ module _ (b v β : ℕ) (X : ℕ → ℕ → ℤ) (m : Matrix b v β X) (y : ℕ
 
   -- the values solve the normal equations
   pub values-solve : (w : ℕ) (M : ℤ) (i : ℕ) → i < v →
-      pos v *ℤ pos β *ℤ top v β w M (totals b X y) i ≡ pos (bottom v β w) *ℤ totals b X y i +ℤ pos v *ℤ pos β *ℤ (pos v *ℤ pos β *ℤ M -ℤ restrained v w (totals b X y))
+      pos v *ℤ pos β *ℤ top v β w M (totals b X y) i ≡ pos (bottom v β w) *ℤ totals b X y i +ℤ pos v *ℤ pos β *ℤ
+      (pos v *ℤ pos β *ℤ M -ℤ restrained v w (totals b X y))
   values-solve w M i l =
       ring₆ (λ v b t x s m. v ⊗ b ⊗ (t ⊗ x ⊝ s ⊕ v ⊗ b ⊗ m) ≐ t ⊗ (v ⊗ b) ⊗ x ⊕ v ⊗ b ⊗ (v ⊗ b ⊗ m ⊝ s))
       (pos v) (pos β) (pos (members v w)) (totals b X y i) (restrained v w (totals b X y)) M refl
@@ -143,9 +149,13 @@ module _ (b v β : ℕ) (X : ℕ → ℕ → ℤ) (m : Matrix b v β X) (y : ℕ
   -- the squared deviations under the totals add to vβ Q
   pub squares-Q : squares b v X y (pos (v * β)) (totals b X y) ≡ pos (v * β) *ℤ Q-of
   squares-Q =
-      sum b (λ k. sq (vβ *ℤ y k -ℤ f k)) ≡⟨ sum-ext b _ _ (λ k. ring₃ (λ v y f. (v ⊗ y ⊝ f) ⊗ (v ⊗ y ⊝ f) ≐ v ⊗ v ⊗ (y ⊗ y) ⊕ (f ⊗ f ⊝ # 2 ⊗ v ⊗ (y ⊗ f))) vβ (y k) (f k) refl) ⟩
-      sum b (λ k. vβ *ℤ vβ *ℤ sq (y k) +ℤ (sq (f k) -ℤ pos 2 *ℤ vβ *ℤ (y k *ℤ f k))) ≡⟨ sum-add b _ _ ∙ ap₂ _+ℤ_ (sum-scale b (vβ *ℤ vβ) _) (sum-sub b _ _ ∙ ap₂ _-ℤ_ lengths (sum-scale b (pos 2 *ℤ vβ) _ ∙ ap (λ z. pos 2 *ℤ vβ *ℤ z) (adjoint b v X y (totals b X y)))) ⟩
-      vβ *ℤ vβ *ℤ Y +ℤ (pos β *ℤ pos v *ℤ TT -ℤ pos β *ℤ sq (pos 0) -ℤ pos 2 *ℤ vβ *ℤ TT) ≡⟨ ring₄ (λ v b y t. v ⊗ b ⊗ (v ⊗ b) ⊗ y ⊕ (b ⊗ v ⊗ t ⊝ b ⊗ (# 0 ⊗ # 0) ⊝ # 2 ⊗ (v ⊗ b) ⊗ t) ≐ v ⊗ b ⊗ (v ⊗ b ⊗ y ⊝ t)) (pos v) (pos β) Y TT refl ⟩
+      sum b (λ k. sq (vβ *ℤ y k -ℤ f k)) ≡⟨ sum-ext b _ _
+      (λ k. ring₃ (λ v y f. (v ⊗ y ⊝ f) ⊗ (v ⊗ y ⊝ f) ≐ v ⊗ v ⊗ (y ⊗ y) ⊕ (f ⊗ f ⊝ # 2 ⊗ v ⊗ (y ⊗ f))) vβ (y k) (f k) refl) ⟩
+      sum b (λ k. vβ *ℤ vβ *ℤ sq (y k) +ℤ (sq (f k) -ℤ pos 2 *ℤ vβ *ℤ (y k *ℤ f k))) ≡⟨ sum-add b _ _
+      ∙ ap₂ _+ℤ_ (sum-scale b (vβ *ℤ vβ) _)
+      (sum-sub b _ _ ∙ ap₂ _-ℤ_ lengths (sum-scale b (pos 2 *ℤ vβ) _ ∙ ap (λ z. pos 2 *ℤ vβ *ℤ z) (adjoint b v X y (totals b X y)))) ⟩
+      vβ *ℤ vβ *ℤ Y +ℤ (pos β *ℤ pos v *ℤ TT -ℤ pos β *ℤ sq (pos 0) -ℤ pos 2 *ℤ vβ *ℤ TT) ≡⟨ ring₄
+      (λ v b y t. v ⊗ b ⊗ (v ⊗ b) ⊗ y ⊕ (b ⊗ v ⊗ t ⊝ b ⊗ (# 0 ⊗ # 0) ⊝ # 2 ⊗ (v ⊗ b) ⊗ t) ≐ v ⊗ b ⊗ (v ⊗ b ⊗ y ⊝ t)) (pos v) (pos β) Y TT refl ⟩
       vβ *ℤ (vβ *ℤ Y -ℤ TT) ∎
     where
       vβ : ℤ
@@ -172,7 +182,8 @@ module _ (b v β : ℕ) (X : ℕ → ℕ → ℤ) (m : Matrix b v β X) (y : ℕ
   pub squares-values : (w : ℕ) (M : ℤ) →
       squares b v X y (pos (bottom v β w)) (top v β w M (totals b X y)) ≡ sq (pos (members v w)) *ℤ (pos (v * β) *ℤ Q-of)
   squares-values w M =
-      sum-cong b _ (λ k. sq (pos (members v w)) *ℤ sq (apart v X y (pos (v * β)) (totals b X y) k)) (λ k l. ap sq (sym (apart-values v β X y (totals b X y) w M k (m .rows k l)))
+      sum-cong b _ (λ k. sq (pos (members v w)) *ℤ sq (apart v X y (pos (v * β)) (totals b X y) k))
+      (λ k l. ap sq (sym (apart-values v β X y (totals b X y) w M k (m .rows k l)))
       ∙ ring₂ (λ t e. t ⊗ e ⊗ (t ⊗ e) ≐ t ⊗ t ⊗ (e ⊗ e)) (pos (members v w)) (apart v X y (pos (v * β)) (totals b X y) k) refl)
       ∙ sum-scale b (sq (pos (members v w))) _ ∙ ap (λ z. sq (pos (members v w)) *ℤ z) squares-Q
 
@@ -209,7 +220,8 @@ module _ (b v β : ℕ) (X : ℕ → ℕ → ℤ) (m : Matrix b v β X) (y : ℕ
 
       same : u i ≡ pos 0 → a i *ℤ D ≡ N i *ℤ pos e
       same o =
-          ring₄ (λ a d n e. a ⊗ d ≐ (d ⊗ a ⊝ e ⊗ n) ⊕ n ⊗ e) (a i) D (N i) (pos e) refl ∙ ap (λ z. z +ℤ N i *ℤ pos e) o ∙ ring₁ (λ n. # 0 ⊕ n ≐ n) (N i *ℤ pos e) refl
+          ring₄ (λ a d n e. a ⊗ d ≐ (d ⊗ a ⊝ e ⊗ n) ⊕ n ⊗ e) (a i) D (N i) (pos e) refl ∙ ap (λ z. z +ℤ N i *ℤ pos e) o
+          ∙ ring₁ (λ n. # 0 ⊕ n ≐ n) (N i *ℤ pos e) refl
 
   -- hundredths, each at most a half away, have squares that are at most βv²/40,000 larger, and none smaller
   module _ (v>0 : 0 < v) (w : ℕ) (M : ℤ) (x : ℕ → ℤ) where
@@ -257,7 +269,8 @@ module _ (b v β : ℕ) (X : ℕ → ℕ → ℤ) (m : Matrix b v β X) (y : ℕ
         U = sum v (λ i. sq (apart-by i))
 
         each : (i : ℕ) → i < v → (pos 4 *ℤ sq (apart-by i)) ≤ℤ sq below
-        each i l = ≤ℤ-trans (≤ℤ-of-≡ (ring₃ (λ d h n. # 4 ⊗ ((d ⊗ h ⊝ # 100 ⊗ n) ⊗ (d ⊗ h ⊝ # 100 ⊗ n)) ≐ # 4 ⊗ ((# 100 ⊗ n ⊝ h ⊗ d) ⊗ (# 100 ⊗ n ⊝ h ⊗ d))) below (x i) (above i) refl))
+        each i l = ≤ℤ-trans (≤ℤ-of-≡ (ring₃
+            (λ d h n. # 4 ⊗ ((d ⊗ h ⊝ # 100 ⊗ n) ⊗ (d ⊗ h ⊝ # 100 ⊗ n)) ≐ # 4 ⊗ ((# 100 ⊗ n ⊝ h ⊗ d) ⊗ (# 100 ⊗ n ⊝ h ⊗ d))) below (x i) (above i) refl))
             (half-square (pos 100 *ℤ above i -ℤ x i *ℤ below) (bottom v β w) (near i l))
 
         every : (pos 4 *ℤ U) ≤ℤ (pos v *ℤ sq below)
@@ -269,7 +282,8 @@ module _ (b v β : ℕ) (X : ℕ → ℕ → ℤ) (m : Matrix b v β X) (y : ℕ
             ∙ ring₄ (λ b v q s. # 4 ⊗ (b ⊗ v ⊗ q ⊝ b ⊗ s) ⊕ # 4 ⊗ (b ⊗ s) ≐ b ⊗ v ⊗ (# 4 ⊗ q)) (pos β) (pos v) U (sq (sum v apart-by)) refl)
 
         cost : (pos 4 *ℤ between) ≤ℤ (pos (β * v * v) *ℤ sq below)
-        cost = ≤ℤ-trans length (≤ℤ-trans (≤ℤ-* (pos (β * v)) (pos-nonneg (β * v)) every) (≤ℤ-of-≡ (ring₃ (λ b v d. b ⊗ v ⊗ (v ⊗ d) ≐ b ⊗ v ⊗ v ⊗ d) (pos β) (pos v) (sq below) refl)))
+        cost = ≤ℤ-trans length (≤ℤ-trans (≤ℤ-* (pos (β * v)) (pos-nonneg (β * v)) every)
+            (≤ℤ-of-≡ (ring₃ (λ b v d. b ⊗ v ⊗ (v ⊗ d) ≐ b ⊗ v ⊗ v ⊗ d) (pos β) (pos v) (sq below) refl)))
 
   -- ---- the same in Q, with the members struck out
   module _ (v>0 : 0 < v) (β>0 : 0 < β) (w : ℕ) (M : ℤ) (t>0 : 0 < members v w) where
@@ -284,7 +298,8 @@ module _ (b v β : ℕ) (X : ℕ → ℕ → ℤ) (m : Matrix b v β X) (y : ℕ
     least-Q e a keeps i l differs =
         cancel-< (members v w * members v w * (v * β)) factor (sq (pos e) *ℤ Q-of) (pos (v * β) *ℤ F)
         (subst₂ _<ℤ_
-        (ap (λ z. sq (pos e) *ℤ z) (squares-values w M) ∙ ring₅ (λ d t v b q. d ⊗ d ⊗ (t ⊗ t ⊗ (v ⊗ b ⊗ q)) ≐ t ⊗ t ⊗ (v ⊗ b) ⊗ (d ⊗ d ⊗ q)) (pos e) (pos (members v w)) (pos v) (pos β) Q-of refl)
+        (ap (λ z. sq (pos e) *ℤ z) (squares-values w M)
+        ∙ ring₅ (λ d t v b q. d ⊗ d ⊗ (t ⊗ t ⊗ (v ⊗ b ⊗ q)) ≐ t ⊗ t ⊗ (v ⊗ b) ⊗ (d ⊗ d ⊗ q)) (pos e) (pos (members v w)) (pos v) (pos β) Q-of refl)
         (ring₄ (λ f t v b. f ⊗ (t ⊗ (v ⊗ b) ⊗ (t ⊗ (v ⊗ b))) ≐ t ⊗ t ⊗ (v ⊗ b) ⊗ (v ⊗ b ⊗ f)) F (pos (members v w)) (pos v) (pos β) refl)
         (values-least v>0 β>0 w M t>0 e a keeps i l differs))
       where
@@ -296,7 +311,8 @@ module _ (b v β : ℕ) (X : ℕ → ℕ → ℤ) (m : Matrix b v β X) (y : ℕ
     hundredths-least x =
         cancel-≤ (members v w * members v w * (v * β)) factor (pos 10000 *ℤ Q-of) (pos (v * β) *ℤ F)
         (subst₂ _≤ℤ_
-        (ap (λ z. pos 10000 *ℤ z) (squares-values w M) ∙ ring₄ (λ t v b q. # 10000 ⊗ (t ⊗ t ⊗ (v ⊗ b ⊗ q)) ≐ t ⊗ t ⊗ (v ⊗ b) ⊗ (# 10000 ⊗ q)) (pos (members v w)) (pos v) (pos β) Q-of refl)
+        (ap (λ z. pos 10000 *ℤ z) (squares-values w M)
+        ∙ ring₄ (λ t v b q. # 10000 ⊗ (t ⊗ t ⊗ (v ⊗ b ⊗ q)) ≐ t ⊗ t ⊗ (v ⊗ b) ⊗ (# 10000 ⊗ q)) (pos (members v w)) (pos v) (pos β) Q-of refl)
         (ring₄ (λ f t v b. t ⊗ (v ⊗ b) ⊗ (t ⊗ (v ⊗ b)) ⊗ f ≐ t ⊗ t ⊗ (v ⊗ b) ⊗ (v ⊗ b ⊗ f)) F (pos (members v w)) (pos v) (pos β) refl)
         (not-less v>0 w M x))
       where
@@ -312,7 +328,8 @@ module _ (b v β : ℕ) (X : ℕ → ℕ → ℤ) (m : Matrix b v β X) (y : ℕ
         (subst₂ _≤ℤ_
         (ring₄ (λ f t v b. # 4 ⊗ (t ⊗ (v ⊗ b) ⊗ (t ⊗ (v ⊗ b))) ⊗ f ≐ t ⊗ t ⊗ (v ⊗ b) ⊗ (# 4 ⊗ (v ⊗ b) ⊗ f)) F (pos (members v w)) (pos v) (pos β) refl)
         (ap (λ z. pos 40000 *ℤ z +ℤ pos (β * v * v) *ℤ sq (pos (bottom v β w))) (squares-values w M)
-        ∙ ring₄ (λ t v b q. # 40000 ⊗ (t ⊗ t ⊗ (v ⊗ b ⊗ q)) ⊕ b ⊗ v ⊗ v ⊗ (t ⊗ (v ⊗ b) ⊗ (t ⊗ (v ⊗ b))) ≐ t ⊗ t ⊗ (v ⊗ b) ⊗ (# 40000 ⊗ q ⊕ b ⊗ v ⊗ v ⊗ (v ⊗ b))) (pos (members v w)) (pos v) (pos β) Q-of refl)
+        ∙ ring₄ (λ t v b q. # 40000 ⊗ (t ⊗ t ⊗ (v ⊗ b ⊗ q)) ⊕ b ⊗ v ⊗ v ⊗ (t ⊗ (v ⊗ b) ⊗ (t ⊗ (v ⊗ b))) ≐ t ⊗ t ⊗ (v ⊗ b) ⊗
+        (# 40000 ⊗ q ⊕ b ⊗ v ⊗ v ⊗ (v ⊗ b))) (pos (members v w)) (pos v) (pos β) Q-of refl)
         (rounding-cost v>0 w M x near))
       where
         F : ℤ

@@ -1,15 +1,20 @@
--- Any two outcomes that keep the promise of `listing` are identical: the answer, and the lent room at exit. `Post` is the contract itself, as the check reads it from the source. Assumes nothing.
+-- Any two outcomes that keep the promise of a public function are identical: the answer and what each lent buffer holds at the end. `Post` is the
+-- contract itself, as the check reads it from the source: where a clause of it is dropped or weakened, the theorem fails. Assumes nothing.
+-- (tools/determined.py writes this file.)
 use mathlib.Core.Path.{_≡_, sym, _∙_}
 use contract.Lifetimes.{Lfts}
 use denote.Ref.{now}
-use denote.Triple.Clauses.{AtExit}
 use borrow.Fn.World.{ArgsD, ResD}
 use borrow.Fn.Kinds.{endedOf}
-use Rattle.listing.proofs.listing as listing
-use Rattle.listing.proofs.listing.Kinds as listing-kinds
-use Rattle.listing.proofs.listing.Reads as listing-reads
+use denote.Triple.Clauses.{AtExit}
+use Rattle.listing.proofs.whole.listing as listing
+use Rattle.listing.proofs.whole.listing.Kinds as listing-kinds
+use Rattle.listing.proofs.whole.listing.Reads as listing-reads
 
--- of `listing`
-module _ (κs : Lfts 2) (a : ArgsD listing.signature κs) (r q : ResD listing.signature κs) (s t : AtExit (endedOf 2 listing-kinds.ps listing-kinds.r) κs) where
-  pub listing-determined : listing-reads.Post κs a r s → listing-reads.Post κs a q t → (r ≡ q) × (now (s .1 .0) ≡ now (t .1 .0))
+-- `listing`: the answer, `out`
+module _ (κs : Lfts 2) (a : ArgsD listing.signature κs) (r q : ResD listing.signature κs)
+    (s t : AtExit (endedOf 2 listing-kinds.ps listing-kinds.r) κs) where
+  pub listing-determined : listing-reads.Post κs a r s → listing-reads.Post κs a q t →
+      (r ≡ q)
+      × (now (s .1 .0) ≡ now (t .1 .0))
   listing-determined p e = (p .0 ∙ sym (e .0), p .1 ∙ sym (e .1))

@@ -1,3 +1,2 @@
--- The text of a file: that what was worked out gives it, and what determines the outcome of the public function.
-pub mod Text
+-- That each promise determines its outcome.
 pub mod Determined

@@ -1,47 +1,6 @@
-// The listing of any byte string.
-use records::Listed;
-use records::Solved;
-ghost use mathlib.Core.Path.{_≡_};
-ghost use Prim.Native.Nat.{_≤_};
-ghost use lib.ListN.{length, take};
-ghost use Rattle.meaning.specs.Text.{listedAnswer, listedAfter};
-ghost use Rattle.sheet.specs.Sheet.{sheetText, renderedAnswer, renderedAfter};
+// The listing of a job file. The face is one function, `listing`: the text of any byte string, put into lent room.
+mod lines;
+mod text;
+mod whole;
 
-// The text for a file at the front of `out`, whose other bytes stay: the listing of an accepted job, or the line of its refusal. Without room for all of it nothing is written.
-// The rooms of its own are those of the largest job.
-pub fn listing(bytes: &[u8], out: &mut [u8]) -> Listed
-    ensures { λ r. ⌜ r ≡ listedAnswer (now (bytes .entry)) (length (now (out .entry))) ⌝ }
-    ensures { λ r. ⌜ now (out .exit) ≡ listedAfter (now (bytes .entry)) (now (out .entry)) ⌝ }
-{
-    let mut words = [0u64; 2600];
-    let mut values = [0i64; 50];
-    let mut deviations = [0i64; 1300];
-    listing_in_rooms(bytes, &mut words, &mut values, &mut deviations, out)
-}
-
-// The same, with the rooms lent.
-fn listing_in_rooms(
-    bytes: &[u8],
-    words: &mut [u64],
-    values: &mut [i64],
-    deviations: &mut [i64],
-    out: &mut [u8],
-) -> Listed
-    requires { ⌜ (2600 ≤ length (now words)) × (50 ≤ length (now values)) × (1300 ≤ length (now deviations)) ⌝ }
-    ensures { λ r. ⌜ r ≡ listedAnswer (now (bytes .entry)) (length (now (out .entry))) ⌝ }
-    ensures { λ r. ⌜ now (out .exit) ≡ listedAfter (now (bytes .entry)) (now (out .entry)) ⌝ }
-{
-    let solved = solving::solve(bytes, words, values, deviations);
-    render_first(solved, values, deviations, out)
-}
-
-// The text of what was worked out, from the first numbers of two rooms: one for each object and one for each block.
-fn render_first(solved: Solved, values: &[i64], deviations: &[i64], out: &mut [u8]) -> Listed
-    requires { ⌜ (solved .parameters .v ≤ length (now values)) × (solved .parameters .b ≤ length (now deviations)) ⌝ }
-    ensures { λ r. ⌜ r ≡ renderedAnswer (sheetText solved (take (solved .parameters .v) (now (values .entry))) (take (solved .parameters .b) (now (deviations .entry)))) (length (now (out .entry))) ⌝ }
-    ensures { λ r. ⌜ now (out .exit) ≡ renderedAfter (sheetText solved (take (solved .parameters .v) (now (values .entry))) (take (solved .parameters .b) (now (deviations .entry)))) (now (out .entry)) ⌝ }
-{
-    let v = solved.parameters.v as usize;
-    let b = solved.parameters.b as usize;
-    sheet::render(solved, &values[..v], &deviations[..b], out)
-}
+pub use whole::listing;

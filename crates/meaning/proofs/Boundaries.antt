@@ -14,7 +14,22 @@ use Rattle.algebra.specs.Ranges.{sum, sumℕ, firstFrom}
 use Rattle.records.specs.declared.Head.{Head}
 use Rattle.records.specs.declared.Judged.{Judged}
 use Rattle.meaning.specs.Design.{sized, occ, plus, left, right, company, opposition, balanced, beta}
-use Rattle.meaning.specs.Analysis.{total, members, restrained, numeratorOf, denominatorOf, along, difference, deviationOf, squaredReadings, squaredTotals, qOf, root, spreadHundredths, spreadHundredthsOf}
+use Rattle.meaning.specs.Analysis.{
+  total,
+  members,
+  restrained,
+  numeratorOf,
+  denominatorOf,
+  along,
+  difference,
+  deviationOf,
+  squaredReadings,
+  squaredTotals,
+  qOf,
+  root,
+  spreadHundredths,
+  spreadHundredthsOf,
+}
 use Rattle.meaning.specs.Publishing.{published, float, floatZero, Near, noValue, spreadOf, spreadFreedom, spreadValue}
 use Rattle.meaning.specs.Fractions.{Fraction, _=ᶠ_, summed, valuesAlong, deviationUnder, squaresUnder, KeepsRestraint, exactValues, publishedValues}
 use Rattle.meaning.specs.Refusals.{offender, farReading, sizes, accepted, refused}
@@ -55,7 +70,25 @@ use Rattle.meaning.specs.Calls.{
   analyseVerdict,
   solvedUnder,
 }
-use Rattle.meaning.specs.File.{big, twos, numbersAt, fieldVerdict, fieldAt, fieldSays, fieldStart, fieldNext, fields, readVerdict, solveVerdict, readAnswer, headOf, blocksOf, readingsOf, setOf, sumOf}
+use Rattle.meaning.specs.File.{
+  big,
+  twos,
+  numbersAt,
+  fieldVerdict,
+  fieldAt,
+  fieldSays,
+  fieldStart,
+  fieldNext,
+  fields,
+  readVerdict,
+  solveVerdict,
+  readAnswer,
+  headOf,
+  blocksOf,
+  readingsOf,
+  setOf,
+  sumOf,
+}
 use Rattle.meaning.specs.Writing.{bytesOf, wrapped, readingsBody, fileOf, writeVerdict, writtenAnswer, writtenAfter}
 use Rattle.meaning.specs.Text.{ascii, digits, spaced, signedText, each, textOf, benchText, listedAnswer, listedAfter}
 use Rattle.meaning.proofs.Rows.{Row, lists, refuses, spreads, publishes, holding, counting, floats, head, every}
@@ -232,31 +265,41 @@ heldRows =
     ∷ holding (parametersHeld (judged four pair)) (zeros 6)
     ∷ counting 2 (λ i. totalAnswer four pair ys4 i .total) (pos 4 ∷ negsuc 6 ∷ [])
     ∷ counting 1 (λ i. totalAnswer four pair far4 i .total) (pos 0 ∷ [])
-    ∷ counting 5 (λ i. getD (valuesUnder (valuesVerdict three pair ys 5 (negsuc 0) 4) three pair ys 5 (negsuc 0) (pos 9 ∷ pos 9 ∷ pos 9 ∷ pos 9 ∷ [])) i (pos 7))
+    ∷ counting 5 (λ i. getD (valuesUnder (valuesVerdict three pair ys 5 (negsuc 0) 4) three pair ys 5 (negsuc 0)
+    (pos 9 ∷ pos 9 ∷ pos 9 ∷ pos 9 ∷ [])) i (pos 7))
     (negsuc 5 ∷ negsuc 23 ∷ pos 0 ∷ pos 9 ∷ pos 7 ∷ [])
-    ∷ counting 3 (λ i. getD (valuesUnder (valuesVerdict three pair ys 5 (negsuc 0) 2) three pair ys 5 (negsuc 0) (pos 9 ∷ pos 9 ∷ [])) i (pos 7)) (pos 9 ∷ pos 9 ∷ pos 7 ∷ [])
-    ∷ counting 5 (λ i. getD (deviationsUnder (deviationsVerdict three pair ys 4) three pair ys (pos 9 ∷ pos 9 ∷ pos 9 ∷ pos 9 ∷ [])) i (pos 7)) (pos 3 ∷ pos 3 ∷ pos 3 ∷ pos 9 ∷ pos 7 ∷ [])
+    ∷ counting 3 (λ i. getD (valuesUnder (valuesVerdict three pair ys 5 (negsuc 0) 2) three pair ys 5 (negsuc 0) (pos 9 ∷ pos 9 ∷ [])) i (pos 7))
+    (pos 9 ∷ pos 9 ∷ pos 7 ∷ [])
+    ∷ counting 5 (λ i. getD (deviationsUnder (deviationsVerdict three pair ys 4) three pair ys (pos 9 ∷ pos 9 ∷ pos 9 ∷ pos 9 ∷ [])) i (pos 7))
+    (pos 3 ∷ pos 3 ∷ pos 3 ∷ pos 9 ∷ pos 7 ∷ [])
     ∷ counting 3 (λ i. getD (deviationsUnder (deviationsVerdict three pair ys 2) three pair ys (pos 9 ∷ pos 9 ∷ [])) i (pos 7)) (pos 9 ∷ pos 9 ∷ pos 7 ∷ [])
-    ∷ counting 2 (λ i. getD (valueAnswer three pair ys 5 (negsuc 0) 1 .value .numerator ∷ valueAnswer three pair ys 5 (negsuc 0) 1 .value .hundredths ∷ []) i (pos 7)) (negsuc 23 ∷ negsuc 399 ∷ [])
+    ∷ counting 2 (λ i. getD (valueAnswer three pair ys 5 (negsuc 0) 1 .value .numerator ∷ valueAnswer three pair ys 5
+    (negsuc 0) 1 .value .hundredths ∷ []) i (pos 7)) (negsuc 23 ∷ negsuc 399 ∷ [])
     ∷ holding (valueAnswer three pair ys 5 (negsuc 0) 1 .value .denominator ∷ valueAnswer three pair ys 0 (negsuc 0) 1 .value .denominator ∷ []) (6 ∷ 0 ∷ [])
-    ∷ counting 2 (λ i. getD (valueAnswer three pair ys 0 (negsuc 0) 1 .value .numerator ∷ valueAnswer three pair ys 0 (negsuc 0) 1 .value .hundredths ∷ []) i (pos 7)) (pos 0 ∷ pos 0 ∷ [])
+    ∷ counting 2 (λ i. getD (valueAnswer three pair ys 0 (negsuc 0) 1 .value .numerator ∷ valueAnswer three pair ys 0
+    (negsuc 0) 1 .value .hundredths ∷ []) i (pos 7)) (pos 0 ∷ pos 0 ∷ [])
     ∷ counting 2 (λ i. getD (deviationAnswer three pair ys 1 .numerator ∷ deviationAnswer four pair ys4 1 .numerator ∷ []) i (pos 7)) (pos 3 ∷ pos 0 ∷ [])
     ∷ counting 2 (λ i. getD (along (λ k. pos 3) [] ∷ along (λ k. pos 3) pair ∷ []) i (pos 7)) (pos 0 ∷ pos 6 ∷ [])
     ∷ holding (deviationAnswer three pair ys 1 .denominator ∷ deviationAnswer four pair ys4 1 .denominator ∷ []) (3 ∷ 0 ∷ [])
     ∷ holding
-    (squaredReadingsAnswer three ys .sum ∷ squaredTotalsAnswer three pair ys .sum ∷ qAnswer three pair ys .sum ∷ squaredReadingsAnswer three far .sum ∷ squaredTotalsAnswer three pair far .sum ∷ qAnswer three pair far .sum ∷ [])
+    (squaredReadingsAnswer three ys .sum ∷ squaredTotalsAnswer three pair ys .sum ∷ qAnswer three pair ys .sum ∷ squaredReadingsAnswer three far .sum
+    ∷ squaredTotalsAnswer three pair far .sum ∷ qAnswer three pair far .sum ∷ [])
     (29 ∷ 78 ∷ 9 ∷ 0 ∷ 0 ∷ 0 ∷ [])
     ∷ holding
-    (spreadAnswer three pair ys .spreading .q ∷ spreadAnswer three pair ys .spreading .vbeta ∷ spreadAnswer three pair ys .spreading .freedom ∷ spreadAnswer three pair ys .spreading .hundredths ∷ spreadFreedom (spreadAnswer three pair ys .spreading .spread) ∷ [])
+    (spreadAnswer three pair ys .spreading .q ∷ spreadAnswer three pair ys .spreading .vbeta ∷ spreadAnswer three pair ys .spreading .freedom
+    ∷ spreadAnswer three pair ys .spreading .hundredths ∷ spreadFreedom (spreadAnswer three pair ys .spreading .spread) ∷ [])
     (9 ∷ 3 ∷ 1 ∷ 173 ∷ 1 ∷ [])
     ∷ holding
-    (spreadAnswer four pair ys4 .spreading .q ∷ spreadAnswer four pair ys4 .spreading .vbeta ∷ spreadAnswer four pair ys4 .spreading .freedom ∷ spreadAnswer four pair ys4 .spreading .hundredths ∷ spreadFreedom (spreadAnswer four pair ys4 .spreading .spread) ∷ [])
+    (spreadAnswer four pair ys4 .spreading .q ∷ spreadAnswer four pair ys4 .spreading .vbeta ∷ spreadAnswer four pair ys4 .spreading .freedom
+    ∷ spreadAnswer four pair ys4 .spreading .hundredths ∷ spreadFreedom (spreadAnswer four pair ys4 .spreading .spread) ∷ [])
     (zeros 5)
     ∷ holding
-    (solvedUnder accepted three pair ys 5 .parameters .b ∷ solvedUnder accepted three pair ys 5 .denominator ∷ solvedUnder accepted three pair ys 5 .spreading .q ∷ [])
+    (solvedUnder accepted three pair ys 5 .parameters .b ∷ solvedUnder accepted three pair ys 5 .denominator
+    ∷ solvedUnder accepted three pair ys 5 .spreading .q ∷ [])
     (3 ∷ 6 ∷ 9 ∷ [])
     ∷ holding
-    (solvedUnder (refused 10 0) three pair ys 5 .parameters .b ∷ solvedUnder (refused 10 0) three pair ys 5 .denominator ∷ solvedUnder (refused 10 0) three pair ys 5 .spreading .q ∷ spreadFreedom (solvedUnder (refused 10 0) three pair ys 5 .spreading .spread) ∷ [])
+    (solvedUnder (refused 10 0) three pair ys 5 .parameters .b ∷ solvedUnder (refused 10 0) three pair ys 5 .denominator ∷ solvedUnder
+    (refused 10 0) three pair ys 5 .spreading .q ∷ spreadFreedom (solvedUnder (refused 10 0) three pair ys 5 .spreading .spread) ∷ [])
     (zeros 4)
     ∷ []
 
@@ -354,13 +397,16 @@ fileRows =
     (56 ∷ 33 ∷ 14 ∷ 99 ∷ [])
     ∷ holding (fieldStart (fieldAt fileA 33 4 20) ∷ fieldStart (fieldAt fileA 33 4 21) ∷ []) (36 ∷ 0 ∷ [])
     ∷ holding (big fileA 33 3 ∷ big fileA 40 4 ∷ big fileA 55 3 ∷ []) (262164 ∷ 4294967293 ∷ 16252928 ∷ [])
-    ∷ counting 6 (λ i. getD (twos 32 2147483647 ∷ twos 32 2147483648 ∷ twos 32 4294967295 ∷ twos 64 9223372036854775807 ∷ twos 64 9223372036854775808 ∷ twos 64 18446744073709551615 ∷ []) i (pos 7))
+    ∷ counting 6 (λ i. getD (twos 32 2147483647 ∷ twos 32 2147483648 ∷ twos 32 4294967295 ∷ twos 64 9223372036854775807 ∷ twos 64 9223372036854775808
+    ∷ twos 64 18446744073709551615 ∷ []) i (pos 7))
     (pos 2147483647 ∷ negsuc 2147483647 ∷ negsuc 0 ∷ pos 9223372036854775807 ∷ negsuc 9223372036854775807 ∷ negsuc 0 ∷ [])
     ∷ holding
-    (readAnswer fileA .head .n ∷ readAnswer fileA .head .flag ∷ readAnswer fileA .head .p ∷ readAnswer fileA .head .m ∷ readAnswer fileA .«blocks_at» ∷ readAnswer fileA .«readings_at» ∷ readAnswer fileA .set ∷ [])
+    (readAnswer fileA .head .n ∷ readAnswer fileA .head .flag ∷ readAnswer fileA .head .p ∷ readAnswer fileA .head .m ∷ readAnswer fileA .«blocks_at»
+    ∷ readAnswer fileA .«readings_at» ∷ readAnswer fileA .set ∷ [])
     (5 ∷ 0 ∷ 2 ∷ 1 ∷ 10 ∷ 36 ∷ 3 ∷ [])
     ∷ holding
-    (readAnswer fileC .head .n ∷ readAnswer fileC .head .flag ∷ readAnswer fileC .head .p ∷ readAnswer fileC .head .m ∷ readAnswer fileC .«blocks_at» ∷ readAnswer fileC .«readings_at» ∷ readAnswer fileC .set ∷ [])
+    (readAnswer fileC .head .n ∷ readAnswer fileC .head .flag ∷ readAnswer fileC .head .p ∷ readAnswer fileC .head .m ∷ readAnswer fileC .«blocks_at»
+    ∷ readAnswer fileC .«readings_at» ∷ readAnswer fileC .set ∷ [])
     (zeros 7)
     ∷ counting 2 (λ i. getD (readAnswer fileA .sum ∷ readAnswer fileC .sum ∷ []) i (pos 5)) (pos 7 ∷ pos 0 ∷ [])
     ∷ []
@@ -403,7 +449,8 @@ listingRows =
     ∷ lists [] (ascii "refused 1 0\n")
     ∷ holding (benchText (replicate 10000 9)) (ascii "refused 2 0\n")
     ∷ holding (benchText (fileA ++ replicate 9000 9)) (ascii "refused 9 56\n")
-    ∷ holding (spaced 18446744073709551615 ++ signedText (negsuc 9223372036854775807) ++ spaced 0 ++ signedText (pos 10)) (ascii " 18446744073709551615 -9223372036854775808 0 10")
+    ∷ holding (spaced 18446744073709551615 ++ signedText (negsuc 9223372036854775807) ++ spaced 0 ++ signedText (pos 10))
+    (ascii " 18446744073709551615 -9223372036854775808 0 10")
     ∷ holding (listedAfter [] (replicate 14 46)) (ascii "refused 1 0\n..")
     ∷ holding (listedAfter [] (replicate 11 46)) (replicate 11 46)
     ∷ holding (listedAnswer [] 12 .length ∷ listedAnswer [] 11 .length ∷ []) (12 ∷ 0 ∷ [])
@@ -439,7 +486,8 @@ writingRows =
     ∷ holding (rewritten fileZero) fileZero
     ∷ holding (bytesOf 2 1280 ++ bytesOf 2 65535 ++ bytesOf 3 256) (5 ∷ 0 ∷ 255 ∷ 255 ∷ 0 ∷ 1 ∷ 0 ∷ [])
     ∷ holding
-    (wrapped 32 (pos 2147483647) ∷ wrapped 32 (negsuc 2147483647) ∷ wrapped 32 (negsuc 0) ∷ wrapped 64 (pos 9223372036854775807) ∷ wrapped 64 (negsuc 9223372036854775807) ∷ wrapped 64 (negsuc 0) ∷ [])
+    (wrapped 32 (pos 2147483647) ∷ wrapped 32 (negsuc 2147483647) ∷ wrapped 32 (negsuc 0) ∷ wrapped 64 (pos 9223372036854775807) ∷ wrapped 64
+    (negsuc 9223372036854775807) ∷ wrapped 64 (negsuc 0) ∷ [])
     (2147483647 ∷ 2147483648 ∷ 4294967295 ∷ 9223372036854775807 ∷ 9223372036854775808 ∷ 18446744073709551615 ∷ [])
     ∷ refuses (writeVerdict (head 2 0 1 1) (0 ∷ []) ys 7 (pos 0) 0) 4 0
     ∷ refuses (writeVerdict three (0 ∷ 3 ∷ 0 ∷ []) ys 7 (pos 0) 0) 3 0
@@ -451,7 +499,8 @@ writingRows =
     ∷ refuses (writeVerdict three pair ys 7 (negsuc 1) 45) 10 0
     ∷ refuses (writeVerdict three pair ys 7 (negsuc 1) 46) 0 0
     ∷ refuses (writeVerdict three pair ys 7 (negsuc 1) 47) 0 0
-    ∷ holding (writtenAnswer three pair ys 7 (negsuc 1) 47 .length ∷ writtenAnswer three pair ys 7 (negsuc 1) 45 .length ∷ writtenAnswer three pair far 7 (negsuc 1) 47 .length ∷ []) (46 ∷ 0 ∷ 0 ∷ [])
+    ∷ holding (writtenAnswer three pair ys 7 (negsuc 1) 47 .length ∷ writtenAnswer three pair ys 7
+    (negsuc 1) 45 .length ∷ writtenAnswer three pair far 7 (negsuc 1) 47 .length ∷ []) (46 ∷ 0 ∷ 0 ∷ [])
     ∷ refuses (writtenAnswer three pair far 7 (negsuc 1) 47 .verdict) 8 1
     ∷ refuses (writtenAnswer three pair ys 7 (negsuc 1) 47 .verdict) 0 0
     ∷ holding (writtenAfter three pair ys 7 (negsuc 1) (replicate 48 77)) (fileThree ++ (77 ∷ 77 ∷ []))

@@ -6,7 +6,22 @@ use Prim.Native.Nat.{ℕ}
 use lib.IntN.{pos, negsuc}
 use Rattle.algebra.specs.Ranges.{sum, sumℕ, firstFrom}
 use Rattle.meaning.specs.Design.{sized, occ, plus, left, right, company, opposition, balanced, beta}
-use Rattle.meaning.specs.Analysis.{total, members, restrained, numeratorOf, denominatorOf, along, difference, deviationOf, squaredReadings, squaredTotals, qOf, root, spreadHundredths, spreadHundredthsOf}
+use Rattle.meaning.specs.Analysis.{
+  total,
+  members,
+  restrained,
+  numeratorOf,
+  denominatorOf,
+  along,
+  difference,
+  deviationOf,
+  squaredReadings,
+  squaredTotals,
+  qOf,
+  root,
+  spreadHundredths,
+  spreadHundredthsOf,
+}
 use Rattle.meaning.specs.Publishing.{published}
 use Rattle.meaning.specs.Refusals.{offender, farReading}
 use Rattle.meaning.specs.Calls.{designVerdict, judgeVerdict, slices, contents}

@@ -19,7 +19,18 @@ use Rattle.records.specs.declared.SquareSum.{SquareSum}
 use Rattle.records.specs.declared.JobSpread.{JobSpread}
 use Rattle.records.specs.declared.Solved.{Solved}
 use Rattle.meaning.specs.Design.{objects, blocks, listLength, left, right, company, opposition, parametersOf}
-use Rattle.meaning.specs.Analysis.{total, numeratorOf, denominatorOf, deviationOf, vbeta, squaredReadings, squaredTotals, qOf, freedom, spreadHundredthsOf}
+use Rattle.meaning.specs.Analysis.{
+  total,
+  numeratorOf,
+  denominatorOf,
+  deviationOf,
+  vbeta,
+  squaredReadings,
+  squaredTotals,
+  qOf,
+  freedom,
+  spreadHundredthsOf,
+}
 use Rattle.meaning.specs.Publishing.{valueOf, noValue, noSpread, spreadOf}
 use Rattle.meaning.specs.Refusals.{_⨾_, sizes, lengthIs, clean, exists, inBalance, restraint, inReach, room}
 
@@ -53,6 +64,9 @@ developVerdict h d len = designVerdict h d ⨾ room len (2 * blocks h)
 
 abbrev pub wordsUnder : Verdict → Head → List ℕ → List ℕ → List ℕ
 wordsUnder verdict h d words = written verdict (2 * blocks h) (wordAt h d) words
+
+abbrev pub developAfter : Head → List ℕ → List ℕ → List ℕ
+developAfter h d words = wordsUnder (developVerdict h d (length words)) h d words
 
 -- the development of initial block j: room for all words is asked, and its own 2n are written
 unfoldable pub initialVerdict : Head → List ℕ → ℕ → ℕ → Verdict
@@ -114,6 +128,9 @@ valuesVerdict h d y w M len = jobVerdict h d y w M ⨾ room len (objects h)
 abbrev pub valuesUnder : Verdict → Head → List ℕ → List ℤ → ℕ → ℤ → List ℤ → List ℤ
 valuesUnder verdict h d y w M values = written verdict (objects h) (numeratorOf h d y w M) values
 
+abbrev pub valuesAfter : Head → List ℕ → List ℤ → ℕ → ℤ → List ℤ → List ℤ
+valuesAfter h d y w M values = valuesUnder (valuesVerdict h d y w M (length values)) h d y w M values
+
 -- the value of one object
 unfoldable pub valueVerdict : Head → List ℕ → List ℤ → ℕ → ℤ → ℕ → Verdict
 valueVerdict h d y w M i = slices h d y ⨾ clean h d ⨾ exists i (objects h) ⨾ inBalance h d ⨾ restraint h w M ⨾ inReach y
@@ -131,6 +148,9 @@ deviationsVerdict h d y len = readingsVerdict h d y ⨾ room len (blocks h)
 
 abbrev pub deviationsUnder : Verdict → Head → List ℕ → List ℤ → List ℤ → List ℤ
 deviationsUnder verdict h d y deviations = written verdict (blocks h) (deviationOf h d y) deviations
+
+abbrev pub deviationsAfter : Head → List ℕ → List ℤ → List ℤ → List ℤ
+deviationsAfter h d y deviations = deviationsUnder (deviationsVerdict h d y (length deviations)) h d y deviations
 
 -- the deviation of one block
 unfoldable pub deviationVerdict : Head → List ℕ → List ℤ → ℕ → Verdict
@@ -180,5 +200,21 @@ analyseVerdict h d y w M words values deviations = jobVerdict h d y w M ⨾ room
 
 -- the record of a job worked out, under its verdict
 abbrev pub solvedUnder : Verdict → Head → List ℕ → List ℤ → ℕ → Solved
-solvedUnder verdict h d y w =
-    record { verdict = verdict; parameters = given verdict (parametersOf h d) noParameters; denominator = given verdict (denominatorOf h d w) 0; spreading = given verdict (spreadingOf h d y) noSpreading }
+solvedUnder verdict h d y w = let parameters = given verdict (parametersOf h d) noParameters in let spreading = given verdict (spreadingOf h d y) noSpreading in
+    record { verdict = verdict; parameters = parameters; denominator = given verdict (denominatorOf h d w) 0; spreading = spreading }
+
+-- what the call answers on three lent rooms, and each room after
+abbrev pub analysed : Head → List ℕ → List ℤ → ℕ → ℤ → List ℕ → List ℤ → List ℤ → Verdict
+analysed h d y w M words values deviations = analyseVerdict h d y w M (length words) (length values) (length deviations)
+
+abbrev pub analyseAnswer : Head → List ℕ → List ℤ → ℕ → ℤ → List ℕ → List ℤ → List ℤ → Solved
+analyseAnswer h d y w M words values deviations = solvedUnder (analysed h d y w M words values deviations) h d y w
+
+abbrev pub analyseWords : Head → List ℕ → List ℤ → ℕ → ℤ → List ℕ → List ℤ → List ℤ → List ℕ
+analyseWords h d y w M words values deviations = wordsUnder (analysed h d y w M words values deviations) h d words
+
+abbrev pub analyseValues : Head → List ℕ → List ℤ → ℕ → ℤ → List ℕ → List ℤ → List ℤ → List ℤ
+analyseValues h d y w M words values deviations = valuesUnder (analysed h d y w M words values deviations) h d y w M values
+
+abbrev pub analyseDeviations : Head → List ℕ → List ℤ → ℕ → ℤ → List ℕ → List ℤ → List ℤ → List ℤ
+analyseDeviations h d y w M words values deviations = deviationsUnder (analysed h d y w M words values deviations) h d y deviations

@@ -11,9 +11,10 @@ use Rattle.records.specs.declared.Field.the-variants.{Body, Unfit}
 use Rattle.records.specs.declared.Verdict.{Verdict}
 use Rattle.records.specs.declared.Verdict.the-variants.{Accepted, Refused}
 use Rattle.records.specs.declared.JobRead.{JobRead}
+use Rattle.records.specs.declared.Solved.{Solved}
 use Rattle.meaning.specs.Design.{blocks, listLength}
 use Rattle.meaning.specs.Refusals.{accepted, refused, test, _⨾_, sizes}
-use Rattle.meaning.specs.Calls.{given, contents, rooms}
+use Rattle.meaning.specs.Calls.{given, contents, rooms, wordsUnder, valuesUnder, deviationsUnder, solvedUnder}
 
 -- the number that c bytes from `at` on make, the first the highest
 unfoldable pub big : List ℕ → ℕ → ℕ → ℕ
@@ -128,6 +129,22 @@ readVerdict s = fields s ⨾ placed s (contents (headOf s) (blocksOf s) (reading
 unfoldable pub solveVerdict : List ℕ → ℕ → ℕ → ℕ → Verdict
 solveVerdict s words values deviations = readVerdict s ⨾ rooms (headOf s) words values deviations
 
+-- what solving answers on three lent rooms, and each room after
+abbrev pub solving : List ℕ → List ℕ → List ℤ → List ℤ → Verdict
+solving s words values deviations = solveVerdict s (length words) (length values) (length deviations)
+
+abbrev pub solveAnswer : List ℕ → List ℕ → List ℤ → List ℤ → Solved
+solveAnswer s words values deviations = solvedUnder (solving s words values deviations) (headOf s) (blocksOf s) (readingsOf s) (setOf s)
+
+abbrev pub solveWords : List ℕ → List ℕ → List ℤ → List ℤ → List ℕ
+solveWords s words values deviations = wordsUnder (solving s words values deviations) (headOf s) (blocksOf s) words
+
+abbrev pub solveValues : List ℕ → List ℕ → List ℤ → List ℤ → List ℤ
+solveValues s words values deviations = valuesUnder (solving s words values deviations) (headOf s) (blocksOf s) (readingsOf s) (setOf s) (sumOf s) values
+
+abbrev pub solveDeviations : List ℕ → List ℕ → List ℤ → List ℤ → List ℤ
+solveDeviations s words values deviations = deviationsUnder (solving s words values deviations) (headOf s) (blocksOf s) (readingsOf s) deviations
+
 -- ---- the answer of reading
 
 abbrev pub noHead : Head
@@ -135,4 +152,6 @@ noHead = record { n = 0; flag = 0; p = 0; m = 0 }
 
 abbrev pub readAnswer : List ℕ → JobRead
 readAnswer s = let verdict = readVerdict s in
-    record { verdict = verdict; head = given verdict (headOf s) noHead; «blocks_at» = given verdict blocksAt 0; «readings_at» = given verdict (readingsAt s) 0; set = given verdict (setOf s) 0; sum = given verdict (sumOf s) (pos 0) }
+    let head = given verdict (headOf s) noHead in let set = given verdict (setOf s) 0 in let sum = given verdict (sumOf s) (pos 0) in
+    let atBlocks = given verdict blocksAt 0 in let atReadings = given verdict (readingsAt s) 0 in
+    record { verdict = verdict; head = head; «blocks_at» = atBlocks; «readings_at» = atReadings; set = set; sum = sum }

@@ -46,7 +46,8 @@ floatZero = fin false 0 (pos 0)
 abbrev pub gap : ℕ → ℕ → ℕ
 gap a b = a - b + (b - a)
 
--- x has the sign of a / d and is away from it by at most the size of a / d divided by 2 to the power bits, over whole numbers; the size of x is (m * up e) / down e
+-- x has the sign of a / d and is away from it by at most the size of a / d divided by 2 to the power bits, over whole numbers; the size of x is (m *
+-- up e) / down e
 abbrev pub Near : ℕ → Float → ℤ → ℕ → Type 0
 Near bits nan a d = ⊥
 Near bits (inf s) a d = ⊥

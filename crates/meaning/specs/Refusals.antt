@@ -1,4 +1,5 @@
--- The tests that a call makes, each with the number and place of its refusal. A chain of them, in the request's order, is a call's verdict. Assumes nothing.
+-- The tests that a call makes, each with the number and place of its refusal. A chain of them, in the request's order, is a call's verdict. Assumes
+-- nothing.
 use Prim.Native.Nat.{ℕ, _-_, _*_, _%_, _^_}
 use mathlib.Core.Bool.{Bool, true, false, cond, not, _&&_, _||_}
 use mathlib.Core.List.{List}

@@ -1,3 +1,3 @@
--- The law of numbers in bytes past the end, and what the promises determine.
-pub mod Bytes
+-- The laws of a row of signed numbers, which the reading of a file cites, and that each promise determines its outcome.
+pub mod Rows
 pub mod Determined

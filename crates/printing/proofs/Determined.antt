@@ -1,25 +1,75 @@
--- Any two outcomes that keep the promise of a public function are identical: the lent bytes at exit, and the place. `Post` is the contract itself, as the check reads it
--- from the source: where a clause of it is dropped or weakened, the theorem fails. Assumes nothing.
-use mathlib.Core.Path.{_≡_}
+-- Any two outcomes that keep the promise of a public function are identical: the answer and what each lent buffer holds at the end. `Post` is the
+-- contract itself, as the check reads it from the source: where a clause of it is dropped or weakened, the theorem fails. Assumes nothing.
+-- (tools/determined.py writes this file.)
+use mathlib.Core.Path.{_≡_, sym, _∙_}
 use contract.Lifetimes.{Lfts}
 use denote.Ref.{now}
-use denote.Triple.Clauses.{AtExit}
 use borrow.Fn.World.{ArgsD, ResD}
 use borrow.Fn.Kinds.{endedOf}
+use denote.Triple.Clauses.{AtExit}
 use Rattle.algebra.proofs.Writing.{wrote-determines}
+use Rattle.printing.proofs.decimals.put_number as put-number
+use Rattle.printing.proofs.decimals.put_number.Kinds as put-number-kinds
+use Rattle.printing.proofs.decimals.put_number.Reads as put-number-reads
+use Rattle.printing.proofs.decimals.put_signed as put-signed
+use Rattle.printing.proofs.decimals.put_signed.Kinds as put-signed-kinds
+use Rattle.printing.proofs.decimals.put_signed.Reads as put-signed-reads
 use Rattle.printing.proofs.put_byte as put-byte
 use Rattle.printing.proofs.put_byte.Kinds as put-byte-kinds
 use Rattle.printing.proofs.put_byte.Reads as put-byte-reads
 use Rattle.printing.proofs.put_text as put-text
 use Rattle.printing.proofs.put_text.Kinds as put-text-kinds
 use Rattle.printing.proofs.put_text.Reads as put-text-reads
+use Rattle.printing.proofs.octets.put_bytes as put-bytes
+use Rattle.printing.proofs.octets.put_bytes.Kinds as put-bytes-kinds
+use Rattle.printing.proofs.octets.put_bytes.Reads as put-bytes-reads
+use Rattle.printing.proofs.octets.bits as bits
+use Rattle.printing.proofs.octets.bits.Kinds as bits-kinds
+use Rattle.printing.proofs.octets.bits.Reads as bits-reads
 
--- of `put_byte`
-module _ (κs : Lfts 1) (a : ArgsD put-byte.signature κs) (r q : ResD put-byte.signature κs) (s t : AtExit (endedOf 1 put-byte-kinds.ps put-byte-kinds.r) κs) where
-  pub put-byte-determined : put-byte-reads.Post κs a r s → put-byte-reads.Post κs a q t → (now (s .0) ≡ now (t .0)) × (r ≡ q)
+-- `put_number`: `out`, the place
+module _ (κs : Lfts 1) (a : ArgsD put-number.signature κs) (r q : ResD put-number.signature κs)
+    (s t : AtExit (endedOf 1 put-number-kinds.ps put-number-kinds.r) κs) where
+  pub put-number-determined : put-number-reads.Post κs a r s → put-number-reads.Post κs a q t →
+      (now (s .0) ≡ now (t .0))
+      × (r ≡ q)
+  put-number-determined p e = wrote-determines p e
+
+-- `put_signed`: `out`, the place
+module _ (κs : Lfts 1) (a : ArgsD put-signed.signature κs) (r q : ResD put-signed.signature κs)
+    (s t : AtExit (endedOf 1 put-signed-kinds.ps put-signed-kinds.r) κs) where
+  pub put-signed-determined : put-signed-reads.Post κs a r s → put-signed-reads.Post κs a q t →
+      (now (s .0) ≡ now (t .0))
+      × (r ≡ q)
+  put-signed-determined p e = wrote-determines p e
+
+-- `put_byte`: `out`, the place
+module _ (κs : Lfts 1) (a : ArgsD put-byte.signature κs) (r q : ResD put-byte.signature κs)
+    (s t : AtExit (endedOf 1 put-byte-kinds.ps put-byte-kinds.r) κs) where
+  pub put-byte-determined : put-byte-reads.Post κs a r s → put-byte-reads.Post κs a q t →
+      (now (s .0) ≡ now (t .0))
+      × (r ≡ q)
   put-byte-determined p e = wrote-determines p e
 
--- of `put_text`
-module _ (κs : Lfts 2) (a : ArgsD put-text.signature κs) (r q : ResD put-text.signature κs) (s t : AtExit (endedOf 2 put-text-kinds.ps put-text-kinds.r) κs) where
-  pub put-text-determined : put-text-reads.Post κs a r s → put-text-reads.Post κs a q t → (now (s .0) ≡ now (t .0)) × (r ≡ q)
+-- `put_text`: `out`, the place
+module _ (κs : Lfts 2) (a : ArgsD put-text.signature κs) (r q : ResD put-text.signature κs)
+    (s t : AtExit (endedOf 2 put-text-kinds.ps put-text-kinds.r) κs) where
+  pub put-text-determined : put-text-reads.Post κs a r s → put-text-reads.Post κs a q t →
+      (now (s .0) ≡ now (t .0))
+      × (r ≡ q)
   put-text-determined p e = wrote-determines p e
+
+-- `put_bytes`: `out`, the place
+module _ (κs : Lfts 1) (a : ArgsD put-bytes.signature κs) (r q : ResD put-bytes.signature κs)
+    (s t : AtExit (endedOf 1 put-bytes-kinds.ps put-bytes-kinds.r) κs) where
+  pub put-bytes-determined : put-bytes-reads.Post κs a r s → put-bytes-reads.Post κs a q t →
+      (now (s .0) ≡ now (t .0))
+      × (r ≡ q)
+  put-bytes-determined p e = wrote-determines p e
+
+-- `bits`: the answer
+module _ (κs : Lfts 0) (a : ArgsD bits.signature κs) (r q : ResD bits.signature κs)
+    (s t : AtExit (endedOf 0 bits-kinds.ps bits-kinds.r) κs) where
+  pub bits-determined : bits-reads.Post κs a r s → bits-reads.Post κs a q t →
+      r ≡ q
+  bits-determined p e = p ∙ sym e

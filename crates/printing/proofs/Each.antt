@@ -14,7 +14,8 @@ unfolding each
 no-lines o at f = nothing o at
 
 -- a turn of a loop over lines
-pub more-lines : {o o′ o″ : List ℕ} {at r r′ : ℕ} (f : ℕ → List ℕ) (i : ℕ) → Wrote o at (each i f) o′ r → Wrote o′ r (f i) o″ r′ → Wrote o at (each (i + 1) f) o″ r′
+pub more-lines : {o o′ o″ : List ℕ} {at r r′ : ℕ} (f : ℕ → List ℕ) (i : ℕ) → Wrote o at (each i f) o′ r → Wrote o′ r (f i) o″ r′ →
+    Wrote o at (each (i + 1) f) o″ r′
 unfolding each
 more-lines f i p q = rw add-one (p then q)
 

@@ -1,4 +1,12 @@
-// Bytes and texts put into lent bytes from a place on. Each function answers the place after its text; what is past the end is dropped, and counted.
+// What is put into lent bytes from a place on: bytes, words, numbers in digits, numbers as their bytes. Each function answers the place after what it
+// put; what is past the end is dropped, and counted.
+mod decimals;
+mod octets;
+
+pub use decimals::put_number;
+pub use decimals::put_signed;
+pub use octets::bits;
+pub use octets::put_bytes;
 ghost use mathlib.Core.List.{[], _∷_};
 ghost use Rattle.algebra.specs.Buffers.{Wrote};
 

@@ -108,6 +108,18 @@ pub struct JobRead {
     pub sum: i64,
 }
 
+// What stands in the fields of a job file, and where: its head; where its blocks, the field of its restraint and its readings start, and how many
+// readings there are; its restraint set and accepted sum.
+pub struct Held {
+    pub head: Head,
+    pub blocks_at: usize,
+    pub restraint_at: usize,
+    pub readings_at: usize,
+    pub count: usize,
+    pub set: u64,
+    pub sum: i64,
+}
+
 // The answer of a call that writes a job file: how many bytes it wrote.
 pub struct JobWritten {
     pub verdict: Verdict,

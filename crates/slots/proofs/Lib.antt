@@ -1,2 +1,3 @@
--- What the promises rule out.
+-- What the number that a call hands back tells, and what the promises rule out.
+pub mod Numbered
 pub mod Determined

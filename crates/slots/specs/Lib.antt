@@ -1,2 +1,5 @@
--- What stands in the slots of a judgement and of a job worked out.
+-- What a call from C returns, what laying slots leaves, which slots an answer has, and how each answer is handed over by them.
+pub mod Told
+pub mod Laid
 pub mod Slots
+pub mod Answers

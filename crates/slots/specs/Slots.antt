@@ -1,16 +1,32 @@
--- The slots of a judgement and of a job worked out, in their order. Assumes nothing.
+-- The slots of each answer, in their order. Assumes nothing.
 use Prim.Native.Nat.{ℕ}
 use mathlib.Core.List.{List, [], _∷_}
-use Rattle.records.specs.declared.Judged.{Judged}
+use Rattle.records.specs.declared.Parameters.{Parameters}
+use Rattle.records.specs.declared.Spread.{Spread}
+use Rattle.records.specs.declared.Spread.the-variants.{Of, None}
+use Rattle.records.specs.declared.Spreading.{Spreading}
 use Rattle.records.specs.declared.Solved.{Solved}
-use Rattle.meaning.specs.Refusals.{place}
-use Rattle.telling.specs.Told.{hasSpread}
+use Rattle.records.specs.declared.JobRead.{JobRead}
 
--- a judgement: place, v, b, r, p, L1, L2
-abbrev pub judgedSlots : Judged → List ℕ
-judgedSlots j = let p = j .parameters in place (j .verdict) ∷ p .v ∷ p .b ∷ p .r ∷ p .p ∷ p .l1 ∷ p .l2 ∷ []
+-- the parameters of a design: v, b, r, p, L1, L2
+abbrev pub parameterSlots : Parameters → List ℕ
+parameterSlots p = p .v ∷ p .b ∷ p .r ∷ p .p ∷ p .l1 ∷ p .l2 ∷ []
 
--- a job worked out: the seven of a judgement, then denominator, Q, v·beta, f, hundredths, whether there is a spread
+-- 1 where there is a spread, and 0 where there is none
+abbrev pub hasSpread : Spread → ℕ
+hasSpread (Of x f) = 1
+hasSpread None = 0
+
+-- what a spread is made from: Q, v·beta, f, hundredths, whether there is a spread
+abbrev pub spreadingSlots : Spreading → List ℕ
+spreadingSlots t = t .q ∷ t .vbeta ∷ t .freedom ∷ t .hundredths ∷ hasSpread (t .spread) ∷ []
+
+-- a job worked out: the parameters, the denominator of every value, what the spread is made from
 abbrev pub solvedSlots : Solved → List ℕ
-solvedSlots s = let p = s .parameters in let t = s .spreading in
-    place (s .verdict) ∷ p .v ∷ p .b ∷ p .r ∷ p .p ∷ p .l1 ∷ p .l2 ∷ s .denominator ∷ t .q ∷ t .vbeta ∷ t .freedom ∷ t .hundredths ∷ hasSpread (t .spread) ∷ []
+solvedSlots s = let p = s .parameters in
+    p .v ∷ p .b ∷ p .r ∷ p .p ∷ p .l1 ∷ p .l2 ∷ s .denominator ∷ spreadingSlots (s .spreading)
+
+-- a job that was read: n, flag, p, m, where the blocks and the readings start, the restraint set
+abbrev pub readSlots : JobRead → List ℕ
+readSlots j = let h = j .head in
+    h .n ∷ h .flag ∷ h .p ∷ h .m ∷ j .«blocks_at» ∷ j .«readings_at» ∷ j .set ∷ []

@@ -1,14 +1,22 @@
-// What a verdict says: whether it refuses; and what a refusal hands back beside it.
+// How a call ends: whether a verdict refuses, and the zeros that a refusal hands back beside it, for each kind of answer.
+use records::BlockDeviation;
+use records::Head;
+use records::JobRead;
 use records::Judged;
+use records::ObjectTotal;
+use records::ObjectValue;
 use records::Parameters;
 use records::Solved;
 use records::Spread;
 use records::Spreading;
+use records::SquareSum;
+use records::Value;
 use records::Verdict;
 ghost use mathlib.Core.Path.{_≡_};
 ghost use mathlib.Core.Bool.{true, false};
-ghost use Rattle.meaning.specs.Calls.{given, noParameters};
-ghost use Rattle.verdicts.specs.Zeros.{noJudgement, noSolution};
+ghost use Rattle.meaning.specs.Refusals.{_⨾_};
+ghost use Rattle.meaning.specs.Calls.{given, noParameters, squareSum};
+ghost use Rattle.verdicts.specs.Zeros.{noJudgement, noSolution, noTotal, noValueUnder, noDeviation, noJob};
 
 // Whether a verdict refuses.
 pub fn is_refused(verdict: Verdict) -> bool
@@ -18,6 +26,16 @@ pub fn is_refused(verdict: Verdict) -> bool
         return false;
     }
     true
+}
+
+// One test after another: the first of two verdicts that refuses.
+pub fn first(before: Verdict, after: Verdict) -> Verdict
+    ensures { λ r. ⌜ r ≡ before ⨾ after ⌝ }
+{
+    if is_refused(before) {
+        return before;
+    }
+    after
 }
 
 // What a refusing judgement hands back: its verdict, and zeros.
@@ -48,6 +66,66 @@ pub fn no_solution(refusal: Verdict) -> Solved
         parameters,
         denominator: 0,
         spreading,
+    }
+}
+
+// What a refused total hands back.
+pub fn no_total(verdict: Verdict) -> ObjectTotal
+    ensures { λ r. ⌜ r ≡ noTotal verdict ⌝ }
+{
+    ObjectTotal { verdict, total: 0 }
+}
+
+// What a refused sum of squares hands back.
+pub fn no_sum(verdict: Verdict) -> SquareSum
+    ensures { λ r. ⌜ r ≡ squareSum verdict 0 ⌝ }
+{
+    SquareSum { verdict, sum: 0 }
+}
+
+// What a refused value hands back.
+pub fn no_value(verdict: Verdict) -> ObjectValue
+    ensures { λ r. ⌜ r ≡ noValueUnder verdict ⌝ }
+{
+    let value = Value {
+        numerator: 0,
+        denominator: 0,
+        hundredths: 0,
+        value: 0.0,
+    };
+    ObjectValue { verdict, value }
+}
+
+// What a refused deviation hands back.
+pub fn no_deviation(verdict: Verdict) -> BlockDeviation
+    ensures { λ r. ⌜ r ≡ noDeviation verdict ⌝ }
+{
+    let numerator: i64 = 0;
+    let denominator: u64 = 0;
+    BlockDeviation {
+        verdict,
+        numerator,
+        denominator,
+    }
+}
+
+// What a refused reading of a file hands back.
+pub fn no_job(verdict: Verdict) -> JobRead
+    ensures { λ r. ⌜ r ≡ noJob verdict ⌝ }
+{
+    let head = Head {
+        n: 0,
+        flag: 0,
+        p: 0,
+        m: 0,
+    };
+    JobRead {
+        verdict,
+        head,
+        blocks_at: 0,
+        readings_at: 0,
+        set: 0,
+        sum: 0,
     }
 }
 

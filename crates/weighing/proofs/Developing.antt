@@ -19,23 +19,23 @@ use Rattle.algebra.proofs.Sums.{sum-none, sum-more, sum-cong, sumℕ-cong}
 use Rattle.algebra.proofs.Bounds.{abs-between, abs-*-le, abs-sum, sum-squares}
 use Rattle.records.specs.declared.Head.{Head}
 use Rattle.meaning.specs.Design.{objects, blocks, left, right}
-use Rattle.meaning.specs.Analysis.{reading, sign, total, squaredTotals}
-use Rattle.meaning.specs.Refusals.{room}
+use Rattle.meaning.specs.Analysis.{reading, sign, total, squaredTotals, member}
+use Rattle.meaning.specs.Refusals.{room, readingLimit}
 use Rattle.meaning.specs.Calls.{word, wordAt}
 use Rattle.laws.specs.Fits.{Fits}
 use Rattle.laws.proofs.Chains.{Sound}
 use Rattle.laws.proofs.Clean.{left-objects, right-objects, block-once}
-use Rattle.words.specs.Bits.{bit}
 use Rattle.words.proofs.Bits.{bit-most}
-use Rattle.words.proofs.Sides.{bit-word, word-below}
-use Rattle.squares.proofs.Squares.{squares}
+use Rattle.words.proofs.Members.{bit-word, word-below}
+use Rattle.weighing.proofs.SquareSums.{squares}
+use Rattle.laws.specs.Limits.{totalLimit}
 use Rattle.weighing.specs.Developed.{signIn, totalIn, squaredTotalsIn, Weighed, Within}
 
 -- ---- over any words
 
 -- a sign is at most 1 in size
 pub sign-most : (words : List ℕ) (k i : ℕ) → natAbs (signIn words k i) ≤ 1
-sign-most words k i = abs-between (bit (getD words (2 * k) 0) i) (bit (getD words (2 * k + 1) 0) i) 1 (bit-most _ i) (bit-most _ i)
+sign-most words k i = abs-between (member (getD words (2 * k) 0) i) (member (getD words (2 * k + 1) 0) i) 1 (bit-most _ i) (bit-most _ i)
 
 module _ (words : List ℕ) (y : List ℤ) where
   -- of no block it is 0
@@ -49,14 +49,14 @@ module _ (words : List ℕ) (y : List ℤ) where
   total-more k i = sum-more k _
 
   -- each block adds at most a reading
-  pub total-small : (k b i : ℕ) → Weighed words y b → k ≤ b → natAbs (totalIn words y k i) ≤ k * 200000
+  pub total-small : (k b i : ℕ) → Weighed words y b → k ≤ b → natAbs (totalIn words y k i) ≤ k * readingLimit
   unfolding totalIn
   total-small k b i w l =
-      abs-sum k 200000 (λ j. signIn words j i *ℤ reading y j)
-      (λ j m. le-trans (abs-*-le (signIn words j i) (reading y j) 1 200000 (sign-most words j i) (w .readings-most j (omega arith))) (omega arith))
+      abs-sum k readingLimit (λ j. signIn words j i *ℤ reading y j)
+      (λ j m. le-trans (abs-*-le (signIn words j i) (reading y j) 1 readingLimit (sign-most words j i) (w .readings-most j (omega arith))) (omega arith))
 
   -- so a total is at most 260,000,000 in size
-  pub total-most : (b i : ℕ) → Weighed words y b → natAbs (totalIn words y b i) ≤ 260000000
+  pub total-most : (b i : ℕ) → Weighed words y b → natAbs (totalIn words y b i) ≤ totalLimit
   total-most b i w = omega (arith, total-small b b i w (omega arith), w .blocks-most)
 
 -- ---- a room that was filled with them
@@ -67,8 +67,8 @@ module _ (words : List ℕ) (y : List ℤ) (b v : ℕ) (room totals : List ℤ) 
   filled-at i l = ap (λ (x : List ℤ). getD x i (pos 0)) e ∙ getD-over v (totalIn words y b) room (pos 0) i l m
 
   -- at most 260,000,000 in size
-  pub filled-most : Weighed words y b → (i : ℕ) → i < v → natAbs (getD totals i (pos 0)) ≤ 260000000
-  filled-most w i l = subst (λ (z : ℤ). natAbs z ≤ 260000000) (sym (filled-at i l)) (total-most words y b i w)
+  pub filled-most : Weighed words y b → (i : ℕ) → i < v → natAbs (getD totals i (pos 0)) ≤ totalLimit
+  filled-most w i l = subst (λ (z : ℤ). natAbs z ≤ totalLimit) (sym (filled-at i l)) (total-most words y b i w)
 
   -- and their squares add to the sum that is promised
   pub filled-squares : squares totals v ≡ squaredTotalsIn words y b v
@@ -112,8 +112,8 @@ module _ (h : Head) (d : List ℕ) (words : List ℕ) (s : Sound h d) (w : Devel
   pub sign-is : (k i : ℕ) → k < blocks h → signIn words k i ≡ sign h d k i
   sign-is k i l =
       ap₂ (λ (a b : ℕ). pos a -ℤ pos b)
-      (ap (λ (x : ℕ). bit x i) (left-word k l) ∙ bit-word (left h d k) (λ x. omega (arith, block-once h d s k l x)) i)
-      (ap (λ (x : ℕ). bit x i) (right-word k l) ∙ bit-word (right h d k) (λ x. omega (arith, block-once h d s k l x)) i)
+      (ap (λ (x : ℕ). member x i) (left-word k l) ∙ bit-word (left h d k) (λ x. omega (arith, block-once h d s k l x)) i)
+      (ap (λ (x : ℕ). member x i) (right-word k l) ∙ bit-word (right h d k) (λ x. omega (arith, block-once h d s k l x)) i)
 
   -- and a total is the total
   pub total-is : (y : List ℤ) (i : ℕ) → totalIn words y (blocks h) i ≡ total h d y i
@@ -144,6 +144,8 @@ laid h d l words s m e = record {
     at = record { at = λ c b. ap (λ (x : List ℕ). getD x c 0) e ∙ getD-over (2 * blocks h) (wordAt h d) l 0 c b m }
 
 -- the squares of its totals add to the squared totals of the design
-pub laid-squares : (h : Head) (d : List ℕ) (y : List ℤ) (words : List ℕ) → Laid h d words → squaredTotalsIn words y (blocks h) (objects h) ≡ natAbs (squaredTotals h d y)
+pub laid-squares : (h : Head) (d : List ℕ) (y : List ℤ) (words : List ℕ) → Laid h d words →
+    squaredTotalsIn words y (blocks h) (objects h) ≡ natAbs (squaredTotals h d y)
 unfolding squaredTotals
-laid-squares h d y words l = sumℕ-cong (objects h) _ _ (λ i b. ap (λ (z : ℤ). natAbs z * natAbs z) (l .totals y i)) ∙ sym (ap natAbs (sum-squares (objects h) (total h d y)))
+laid-squares h d y words l = sumℕ-cong (objects h) _ _ (λ i b. ap (λ (z : ℤ). natAbs z * natAbs z) (l .totals y i))
+    ∙ sym (ap natAbs (sum-squares (objects h) (total h d y)))

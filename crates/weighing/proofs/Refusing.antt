@@ -17,8 +17,8 @@ use Rattle.meaning.specs.Design.{objects, blocks, sized}
 use Rattle.meaning.specs.Refusals.{accepted, _⨾_, inReach, room}
 use Rattle.laws.specs.Fits.{Fits}
 use Rattle.laws.proofs.Chains.{opened, held, accepts, goes-on, test-yes, accepted-last, fits, sized-yes, readings-near}
-use Rattle.weighable.specs.Verdicts.{strayWord, weighVerdict}
-use Rattle.weighable.proofs.Refusing.{stray-none, stray-within}
+use Rattle.weighing.specs.Verdicts.{strayWord, weighVerdict}
+use Rattle.weighing.proofs.weighable.Refusing.{stray-none, stray-within}
 use Rattle.weighing.specs.Developed.{Weighed, Within}
 use Rattle.weighing.proofs.Developing.{Laid}
 
@@ -58,5 +58,9 @@ module _ (h : Head) (words : List ℕ) (y : List ℤ) (len : ℕ) where
   unfolding weighVerdict
   weigh-reach d w m r =
       ap (λ (v : Verdict). v ⨾ room len (objects h))
-      (goes-on (inReach y) (accepts (accepts (accepts (test-yes (sized h) 4 0 (sym (sized-yes h (w .sizes)))) (test-yes (leb (2 * blocks h) (length words)) 3 0 (le-leb _ _ (w .long)))) (test-yes (eqb (length y) (blocks h)) 3 0 (eq-eqb _ _ m))) (test-yes (eqb (strayWord words (2 * blocks h) (objects h)) (2 * blocks h)) 5 _ (eq-eqb _ _ (stray-none words (2 * blocks h) (objects h) (w .within .below))))))
+      (goes-on (inReach y) (accepts (accepts
+      (accepts (test-yes (sized h) 4 0 (sym (sized-yes h (w .sizes)))) (test-yes (leb (2 * blocks h) (length words)) 3 0 (le-leb _ _ (w .long))))
+      (test-yes (eqb (length y) (blocks h)) 3 0 (eq-eqb _ _ m)))
+      (test-yes (eqb (strayWord words (2 * blocks h) (objects h)) (2 * blocks h)) 5 _
+      (eq-eqb _ _ (stray-none words (2 * blocks h) (objects h) (w .within .below))))))
       ∙ ap (λ (v : Verdict). inReach y ⨾ v) (test-yes (leb (objects h) len) 10 0 (le-leb _ _ r)) ∙ accepted-last (inReach y)

@@ -5,13 +5,13 @@ use mathlib.Core.List.{List}
 use lib.ListN.{getD, length}
 use lib.IntN.{ℤ, pos, _+ℤ_, _-ℤ_, _*ℤ_, natAbs}
 use Rattle.algebra.specs.Ranges.{sum, sumℕ}
-use Rattle.meaning.specs.Analysis.{reading}
-use Rattle.words.specs.Bits.{bit}
+use Rattle.meaning.specs.Analysis.{reading, member}
+use Rattle.meaning.specs.Refusals.{readingLimit}
 use Rattle.words.specs.Changing.{eachAt}
 
 -- 1 where object i stands in the left word of block k, -1 where it stands in the right one, 0 elsewhere
 abbrev pub signIn : List ℕ → ℕ → ℕ → ℤ
-signIn words k i = pos (bit (getD words (2 * k) 0) i) -ℤ pos (bit (getD words (2 * k + 1) 0) i)
+signIn words k i = pos (member (getD words (2 * k) 0) i) -ℤ pos (member (getD words (2 * k + 1) 0) i)
 
 -- T(i) over the words of b blocks
 unfoldable pub totalIn : List ℕ → List ℤ → ℕ → ℕ → ℤ
@@ -26,7 +26,7 @@ pub record Weighed (words : List ℕ) (y : List ℤ) (b : ℕ) : Type 0 where
   pub blocks-most : b ≤ 1300
   pub words-long : 2 * b ≤ length words
   pub readings-long : b ≤ length y
-  pub readings-most : (k : ℕ) → k < b → natAbs (reading y k) ≤ 200000
+  pub readings-most : (k : ℕ) → k < b → natAbs (reading y k) ≤ readingLimit
 
 -- every word of b blocks has its objects below v
 pub record Within (words : List ℕ) (b v : ℕ) : Type 0 where
@@ -34,11 +34,11 @@ pub record Within (words : List ℕ) (b v : ℕ) : Type 0 where
 
 -- every object of the word w has its place in a room of totals, and at most B stands there
 pub record Room (totals : List ℤ) (w B : ℕ) : Type 0 where
-  pub held : (i : ℕ) → bit w i ≡ 1 → (i < length totals) × (natAbs (getD totals i (pos 0)) ≤ B)
+  pub held : (i : ℕ) → member w i ≡ 1 → (i < length totals) × (natAbs (getD totals i (pos 0)) ≤ B)
 
 -- the total of object i after y was added where the object is in the word w
 unfoldable pub more : ℕ → ℤ → ℕ → ℤ → ℤ
-more w y i total = total +ℤ pos (bit w i) *ℤ y
+more w y i total = total +ℤ pos (member w i) *ℤ y
 
 -- a room of totals after y was added for every object of the word w
 abbrev pub added : ℕ → ℤ → List ℤ → List ℤ

@@ -1,2 +1,3 @@
--- What the promises and the private functions of this crate speak of, beside the definitions of the base.
+-- What the promises and the private functions speak of, beside the definitions of the base.
 pub mod Developed
+pub mod Verdicts

@@ -12,7 +12,8 @@ use mathlib.Core.List.{List, [], _∷_}
 use native.Mathlib.Omega.{arith}
 use lib.ListN.{getD, length, set}
 use Rattle.algebra.specs.Buffers.{over}
-use Rattle.words.specs.Bits.{bit, lowestOf, withoutLowest}
+use Rattle.meaning.specs.Analysis.{member}
+use Rattle.words.specs.Bits.{lowestOf, withoutLowest}
 use Rattle.words.specs.Changing.{eachAt}
 use Rattle.words.proofs.Bits.{bit-none}
 use Rattle.words.proofs.Walk.{lowest-one, rest-here, rest-other}
@@ -39,7 +40,8 @@ module _ {A : Type 0} where
   each-twice f g (x ∷ l) = ap (λ (t : List A). g 0 (f 0 x) ∷ t) (each-twice (λ k. f (suc k)) (λ k. g (suc k)) l)
 
   -- a store at i, and then a change that differs only there
-  each-set : (f g : ℕ → A → A) (l : List A) (i : ℕ) (d y : A) → ((k : ℕ) (x : A) → (k ≡ i → ⊥) → f k x ≡ g k x) → f i y ≡ g i (getD l i d) → eachAt f (set l i y) ≡ eachAt g l
+  each-set : (f g : ℕ → A → A) (l : List A) (i : ℕ) (d y : A) → ((k : ℕ) (x : A) → (k ≡ i → ⊥) → f k x ≡ g k x) → f i y ≡ g i (getD l i d) →
+      eachAt f (set l i y) ≡ eachAt g l
   unfolding eachAt
   each-set f g [] i d y h e = refl
   each-set f g (x ∷ l) zero d y h e = ap₂ _∷_ e (each-cong (λ k. f (suc k)) (λ k. g (suc k)) l (λ k x. h (suc k) x (λ q. omega arith)))
@@ -47,7 +49,8 @@ module _ {A : Type 0} where
       ap₂ _∷_ (h 0 x (λ q. omega arith)) (each-set (λ k. f (suc k)) (λ k. g (suc k)) l i d y (λ k x n. h (suc k) x (λ q. n (omega arith))) e)
 
   -- what holds between an entry and its change holds at every place; beyond the end d stands for both
-  pub each-keeps : (R : ℕ → A → A → Type 0) (d : A) → ((k : ℕ) → R k d d) → (f : ℕ → A → A) → ((k : ℕ) (x : A) → R k x (f k x)) → (l : List A) (i : ℕ) → R i (getD l i d) (getD (eachAt f l) i d)
+  pub each-keeps : (R : ℕ → A → A → Type 0) (d : A) → ((k : ℕ) → R k d d) → (f : ℕ → A → A) → ((k : ℕ) (x : A) → R k x (f k x)) →
+      (l : List A) (i : ℕ) → R i (getD l i d) (getD (eachAt f l) i d)
   unfolding eachAt
   each-keeps R d z f h [] i = z i
   each-keeps R d z f h (x ∷ l) zero = h 0 x
@@ -75,30 +78,30 @@ module _ {A : Type 0} where
 
   -- f at each place of the word w
   abbrev pub walked : ℕ → (ℕ → A → A) → List A → List A
-  walked w f l = eachAt (λ k x. pick (bit w k) (f k x) x) l
+  walked w f l = eachAt (λ k x. pick (member w k) (f k x) x) l
 
   -- one turn: at the lowest place the change is made, and the rest is still to change
   pub walk-step : (f : ℕ → A → A) (rest : ℕ) (l : List A) (d : A) {i rest′ : ℕ} {y : A} {m : List A} → 0 < rest → rest < 2 ^ 64
       → i ≡ lowestOf rest → rest′ ≡ withoutLowest rest → y ≡ f i (getD l i d) → walked rest f l ≡ m → walked rest′ f (set l i y) ≡ m
   walk-step f rest l d {i} {rest′} {y} p h ei er ey e = each-set _ _ l i d y other here ∙ e
     where
-      other : (k : ℕ) (x : A) → (k ≡ i → ⊥) → pick (bit rest′ k) (f k x) x ≡ pick (bit rest k) (f k x) x
+      other : (k : ℕ) (x : A) → (k ≡ i → ⊥) → pick (member rest′ k) (f k x) x ≡ pick (member rest k) (f k x) x
       other k x n = rw (er, rest-other rest p h k (λ q. n (q ∙ sym ei)))
 
-      here : pick (bit rest′ i) (f i y) y ≡ pick (bit rest i) (f i (getD l i d)) (getD l i d)
+      here : pick (member rest′ i) (f i y) y ≡ pick (member rest i) (f i (getD l i d)) (getD l i d)
       here =
-          let gone : bit rest′ i ≡ 0 = ap₂ bit er ei ∙ rest-here rest p h in
-          let was : bit rest i ≡ 1 = ap (bit rest) ei ∙ lowest-one rest p h in
+          let gone : member rest′ i ≡ 0 = ap₂ member er ei ∙ rest-here rest p h in
+          let was : member rest i ≡ 1 = ap (member rest) ei ∙ lowest-one rest p h in
           rw (gone, was) ey
 
   -- the end: nothing is left to change, and a place that is not in the word has no change
-  pub walk-end : (f : ℕ → A → A) (w : ℕ) (l m : List A) → ((k : ℕ) (x : A) → bit w k ≡ 0 → f k x ≡ x) → walked 0 f l ≡ walked w f m → l ≡ eachAt f m
+  pub walk-end : (f : ℕ → A → A) (w : ℕ) (l m : List A) → ((k : ℕ) (x : A) → member w k ≡ 0 → f k x ≡ x) → walked 0 f l ≡ walked w f m → l ≡ eachAt f m
   walk-end f w l m h e = sym (each-same _ l (λ k x. rw (bit-none k))) ∙ e ∙ each-cong _ _ m all
     where
-      all : (k : ℕ) (x : A) → pick (bit w k) (f k x) x ≡ f k x
-      all k x = go (bit w k) refl
+      all : (k : ℕ) (x : A) → pick (member w k) (f k x) x ≡ f k x
+      all k x = go (member w k) refl
         where
-          go : (b : ℕ) → bit w k ≡ b → pick b (f k x) x ≡ f k x
+          go : (b : ℕ) → member w k ≡ b → pick b (f k x) x ≡ f k x
           go zero q = sym (h k x q)
           go (suc b) q = refl
 
@@ -112,7 +115,7 @@ module _ {A : Type 0} where
   walk-near R s f h rest w l m d i e = (rw e at (near rest l), near w m)
     where
       near : (w : ℕ) (l : List A) → R (getD l i d) (getD (walked w f l) i d)
-      near w l = each-keeps (λ k. R) d (λ k. s d) _ (λ k x. go k x (bit w k)) l i
+      near w l = each-keeps (λ k. R) d (λ k. s d) _ (λ k x. go k x (member w k)) l i
         where
           go : (k : ℕ) (x : A) (b : ℕ) → R x (pick b (f k x) x)
           go k x zero = s x

@@ -1,6 +1,6 @@
 -- What is proved of words.
 pub mod Bits
-pub mod Sides
+pub mod Members
 pub mod Walk
 pub mod Changing
 pub mod Determined

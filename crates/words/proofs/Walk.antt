@@ -22,28 +22,30 @@ use lib.Bits.{bitAnd, and-step, and-self}
 use lib.Count.{trailingZeros, trailing-le, trailing-of-zero, under}
 use Rattle.algebra.specs.Ranges.{firstFrom}
 use Rattle.algebra.proofs.Tests.{first-is, first-from-none}
-use Rattle.words.specs.Bits.{bit, lowestOf, withoutLowest}
+use Rattle.meaning.specs.Analysis.{member}
+use Rattle.words.specs.Bits.{lowestOf, withoutLowest}
 use Rattle.words.proofs.Bits.{half-lt, bit-zero, bit-suc, bit-most, bit-past, once, once-same, once-other, once-suc}
 
 -- ---- the zeros below the lowest 1
 
 -- above them stands a 1
-trailing-one : (k w : ℕ) → trailingZeros k w < k → bit w (trailingZeros k w) ≡ 1
+trailing-one : (k w : ℕ) → trailingZeros k w < k → member w (trailingZeros k w) ≡ 1
 unfolding trailingZeros
 trailing-one zero w h = absurd (not-suc-le-zero h)
 trailing-one (suc k) w h = go (w % 2) refl h (trailing-one k (w / 2))
   where
-    go : (d : ℕ) → w % 2 ≡ d → under d (trailingZeros k (w / 2)) < suc k → (trailingZeros k (w / 2) < k → bit (w / 2) (trailingZeros k (w / 2)) ≡ 1) → bit w (under d (trailingZeros k (w / 2))) ≡ 1
+    go : (d : ℕ) → w % 2 ≡ d → under d (trailingZeros k (w / 2)) < suc k →
+        (trailingZeros k (w / 2) < k → member (w / 2) (trailingZeros k (w / 2)) ≡ 1) → member w (under d (trailingZeros k (w / 2))) ≡ 1
     go zero e l later = bit-suc w (trailingZeros k (w / 2)) ∙ later (omega arith)
     go (suc d) e l later = bit-zero w ∙ omega (arith, mod-lt w (zero-lt-suc 1))
 
 -- each of them is a 0
-trailing-before : (k w j : ℕ) → j < trailingZeros k w → bit w j ≡ 0
+trailing-before : (k w j : ℕ) → j < trailingZeros k w → member w j ≡ 0
 unfolding trailingZeros
 trailing-before zero w j l = absurd (not-suc-le-zero l)
 trailing-before (suc k) w j l = go (w % 2) refl j l (trailing-before k (w / 2))
   where
-    go : (d : ℕ) → w % 2 ≡ d → (j : ℕ) → j < under d (trailingZeros k (w / 2)) → ((j : ℕ) → j < trailingZeros k (w / 2) → bit (w / 2) j ≡ 0) → bit w j ≡ 0
+    go : (d : ℕ) → w % 2 ≡ d → (j : ℕ) → j < under d (trailingZeros k (w / 2)) → ((j : ℕ) → j < trailingZeros k (w / 2) → member (w / 2) j ≡ 0) → member w j ≡ 0
     go zero e zero l later = bit-zero w ∙ e
     go zero e (suc j) l later = bit-suc w j ∙ later j (omega arith)
     go (suc d) e j l later = absurd (not-suc-le-zero l)
@@ -66,21 +68,22 @@ pub lowest-trailing : (w : ℕ) → trailingZeros 64 w ≡ lowestOf w
 unfolding lowestOf
 lowest-trailing w = sym (by (ℕ-discrete (trailingZeros 64 w) 64))
   where
-    before : (j : ℕ) → j < trailingZeros 64 w → eqb (bit w j) 1 ≡ false
-    before j l = ne-eqb (bit w j) 1 (λ e. omega (arith, trailing-before 64 w j l))
+    before : (j : ℕ) → j < trailingZeros 64 w → eqb (member w j) 1 ≡ false
+    before j l = ne-eqb (member w j) 1 (λ e. omega (arith, trailing-before 64 w j l))
 
-    by : Dec (trailingZeros 64 w ≡ 64) → firstFrom (λ i. eqb (bit w i) 1) 0 64 ≡ trailingZeros 64 w
-    by (yes e) = first-from-none (λ i. eqb (bit w i) 1) 0 64 (λ j a l. before j (omega arith)) ∙ sym e
+    by : Dec (trailingZeros 64 w ≡ 64) → firstFrom (λ i. eqb (member w i) 1) 0 64 ≡ trailingZeros 64 w
+    by (yes e) = first-from-none (λ i. eqb (member w i) 1) 0 64 (λ j a l. before j (omega arith)) ∙ sym e
     by (no e) =
         let l : trailingZeros 64 w < 64 = omega (arith, trailing-le 64 w) in
-        first-is (λ i. eqb (bit w i) 1) 0 64 (trailingZeros 64 w) (omega arith) (omega arith) (λ j a m. before j m) (eq-eqb (bit w (trailingZeros 64 w)) 1 (trailing-one 64 w l))
+        first-is (λ i. eqb (member w i) 1) 0 64 (trailingZeros 64 w) (omega arith) (omega arith) (λ j a m. before j m)
+        (eq-eqb (member w (trailingZeros 64 w)) 1 (trailing-one 64 w l))
 
 -- in a word of n places that is not 0 it is one of them
 pub lowest-lt : (n w : ℕ) → 0 < w → w < 2 ^ n → n ≤ 64 → lowestOf w < n
 lowest-lt n w p h l = rw (← lowest-trailing w) (trailing-lt n 64 w p h l)
 
 -- and its bit is 1
-pub lowest-one : (w : ℕ) → 0 < w → w < 2 ^ 64 → bit w (lowestOf w) ≡ 1
+pub lowest-one : (w : ℕ) → 0 < w → w < 2 ^ 64 → member w (lowestOf w) ≡ 1
 lowest-one w p h = rw (← lowest-trailing w) (trailing-one 64 w (trailing-lt 64 64 w p h (omega arith)))
 
 -- a word with a lowest place has an object
@@ -101,7 +104,8 @@ unfolding trailingZeros
 masked zero w p h = absurd (omega (arith, lt-one h))
 masked (suc k) w p h = go (w % 2) refl (λ q. masked k (w / 2) q (half-lt k w h))
   where
-    go : (d : ℕ) → w % 2 ≡ d → (0 < w / 2 → bitAnd (w / 2) (w / 2 - 1) ≡ w / 2 - 2 ^ trailingZeros k (w / 2)) → bitAnd w (w - 1) ≡ w - 2 ^ under d (trailingZeros k (w / 2))
+    go : (d : ℕ) → w % 2 ≡ d → (0 < w / 2 → bitAnd (w / 2) (w / 2 - 1) ≡ w / 2 - 2 ^ trailingZeros k (w / 2)) →
+        bitAnd w (w - 1) ≡ w - 2 ^ under d (trailingZeros k (w / 2))
     go zero e later =
         let half : (w - 1) / 2 ≡ w / 2 - 1 = omega arith in
         let q : 0 < w / 2 = omega arith in
@@ -111,7 +115,7 @@ masked (suc k) w p h = go (w % 2) refl (λ q. masked k (w / 2) q (half-lt k w h)
         rw (and-step, half, and-self) (omega (arith, mod-lt w (zero-lt-suc 1)))
 
 -- a place with a 1 is within the word
-one-within : (w x : ℕ) → bit w x ≡ 1 → 2 ^ x ≤ w
+one-within : (w x : ℕ) → member w x ≡ 1 → 2 ^ x ≤ w
 one-within w x h = by (decLe (2 ^ x) w)
   where
     by : Dec (2 ^ x ≤ w) → 2 ^ x ≤ w
@@ -119,7 +123,7 @@ one-within w x h = by (decLe (2 ^ x) w)
     by (no n) = absurd (omega (arith, bit-past x w x (omega (arith, n)) (omega arith)))
 
 -- a 1 that is taken away leaves every other bit
-bit-less : (x i w : ℕ) → bit w x ≡ 1 → bit (w - 2 ^ x) i + once i x ≡ bit w i
+bit-less : (x i w : ℕ) → member w x ≡ 1 → member (w - 2 ^ x) i + once i x ≡ member w i
 bit-less zero zero w h = omega (arith, bit-zero w, bit-zero (w - 1), h)
 bit-less zero (suc i) w h =
     let odd : w % 2 ≡ 1 = sym (bit-zero w) ∙ h in
@@ -139,16 +143,16 @@ module _ (w : ℕ) (p : 0 < w) (h : w < 2 ^ 64) where
   rest-masked = masked 64 w p h ∙ ap (λ (x : ℕ). w - 2 ^ x) (lowest-trailing w)
 
   -- every bit but the lowest stays
-  pub rest-bit : (i : ℕ) → bit (withoutLowest w) i + once i (lowestOf w) ≡ bit w i
+  pub rest-bit : (i : ℕ) → member (withoutLowest w) i + once i (lowestOf w) ≡ member w i
   unfolding withoutLowest
   rest-bit i = bit-less (lowestOf w) i w (lowest-one w p h)
 
   -- the lowest is gone
-  pub rest-here : bit (withoutLowest w) (lowestOf w) ≡ 0
+  pub rest-here : member (withoutLowest w) (lowestOf w) ≡ 0
   rest-here = omega (arith, rest-bit (lowestOf w), lowest-one w p h, once-same (lowestOf w) (lowestOf w) refl)
 
   -- another stays
-  pub rest-other : (i : ℕ) → (i ≡ lowestOf w → ⊥) → bit (withoutLowest w) i ≡ bit w i
+  pub rest-other : (i : ℕ) → (i ≡ lowestOf w → ⊥) → member (withoutLowest w) i ≡ member w i
   rest-other i e = omega (arith, rest-bit i, once-other i (lowestOf w) e)
 
 -- the rest of a word that is not 0 is less
@@ -166,7 +170,7 @@ rest-none = omega arith
 -- rest is what is left of the word w
 pub record Left (w rest : ℕ) : Type 0 where
   pub less : rest ≤ w
-  pub part : (i : ℕ) → bit rest i ≡ 1 → bit w i ≡ 1
+  pub part : (i : ℕ) → member rest i ≡ 1 → member w i ≡ 1
 
 -- nothing was taken yet
 pub left-all : (w : ℕ) → Left w w
@@ -174,7 +178,7 @@ left-all w = record { less = omega arith; part = λ i e. e }
 
 module _ (w rest : ℕ) (h : w < 2 ^ 64) (p : 0 < rest) (k : Left w rest) where
   -- the lowest object is one of the word
-  pub left-lowest : bit w (lowestOf rest) ≡ 1
+  pub left-lowest : member w (lowestOf rest) ≡ 1
   left-lowest = k .part (lowestOf rest) (lowest-one rest p (omega (arith, k .less)))
 
   -- it is taken

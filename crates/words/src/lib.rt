@@ -1,11 +1,17 @@
-// A side of a block, or a restraint set, as a 64-bit word, one bit an object. Every count is the language's own.
+// A side of a block, or a restraint set, as a 64-bit word, one bit an object; every count is the language's own. The face: the ones of a word and the
+// walk of its objects, lowest first; in `sides`, two objects in company or in opposition.
+mod sides;
+
+pub use sides::in_company;
+pub use sides::in_opposition;
 ghost use mathlib.Core.Path.{_≡_};
 ghost use Rattle.algebra.specs.Ranges.{sumℕ};
-ghost use Rattle.words.specs.Bits.{bit, lowestOf, withoutLowest};
+ghost use Rattle.meaning.specs.Analysis.{member};
+ghost use Rattle.words.specs.Bits.{lowestOf, withoutLowest};
 
 // How many objects stand in a word.
 pub fn ones(word: u64) -> u64
-    ensures { λ r. ⌜ r ≡ sumℕ 64 (bit word) ⌝ }
+    ensures { λ r. ⌜ r ≡ sumℕ 64 (member word) ⌝ }
 {
     u64::count_ones(word) as u64
 }

@@ -15,8 +15,8 @@ use Rattle.meaning.specs.Refusals.{accepted, refused, room}
 use Rattle.meaning.specs.Calls.{jobVerdict}
 use Rattle.meaning.specs.Writing.{fileOf, fileLength, writeVerdict, writtenAnswer, writtenAfter}
 use Rattle.laws.proofs.Chains.{opened, held}
-use Rattle.filing.proofs.Writing.{file-length}
-use Rattle.writable.proofs.Slices.{Laid, laid}
+use Rattle.laws.proofs.Writing.{file-length}
+use Rattle.writing.proofs.writable.Slices.{Laid, laid}
 
 module _ (h : Head) (d : List ℕ) (y : List ℤ) (w : ℕ) (M : ℤ) (out : List ℕ) where
   -- the answer and the room after are those of writing
@@ -37,10 +37,12 @@ module _ (h : Head) (d : List ℕ) (y : List ℤ) (w : ℕ) (M : ℤ) (out : Lis
     fitting = laid h d y w M (both .0)
 
     -- and the file stands in front, as many bytes as were put
-    pub written : {after : List ℕ} {r : ℕ} → Wrote out 0 (fileOf h d y w M) after r → length out < 18446744073709551615 → Written (record { verdict = accepted; length = r }) after
+    pub written : {after : List ℕ} {r : ℕ} → Wrote out 0 (fileOf h d y w M) after r → length out < 18446744073709551615 →
+        Written (record { verdict = accepted; length = r }) after
     written {after} {r} p small =
         let long = file-length h d y w M (both .0) in
         let fits : fileLength h ≤ length out = leb-true _ _ (held (leb (fileLength h) (length out)) 10 0 (both .1)) in
         let count : r ≡ fileLength h = counts p (omega arith) ∙ long in
-        let there : after ≡ fileOf h d y w M ++ drop (fileLength h) out = in-front p (omega arith) small ∙ ap (λ (i : ℕ). fileOf h d y w M ++ drop i out) long in
+        let there : after ≡ fileOf h d y w M ++ drop (fileLength h) out = in-front p (omega arith) small
+        ∙ ap (λ (i : ℕ). fileOf h d y w M ++ drop i out) long in
         rw e ((λ j. record { verdict = accepted; length = count j }), there)

@@ -1,15 +1,20 @@
--- Any two outcomes that keep the promise of `write` are identical: the answer, and the lent room at exit. `Post` is the contract itself, as the check reads it from the source. Assumes nothing.
+-- Any two outcomes that keep the promise of a public function are identical: the answer and what each lent buffer holds at the end. `Post` is the
+-- contract itself, as the check reads it from the source: where a clause of it is dropped or weakened, the theorem fails. Assumes nothing.
+-- (tools/determined.py writes this file.)
 use mathlib.Core.Path.{_≡_, sym, _∙_}
 use contract.Lifetimes.{Lfts}
 use denote.Ref.{now}
-use denote.Triple.Clauses.{AtExit}
 use borrow.Fn.World.{ArgsD, ResD}
 use borrow.Fn.Kinds.{endedOf}
-use Rattle.writing.proofs.write as write
-use Rattle.writing.proofs.write.Kinds as write-kinds
-use Rattle.writing.proofs.write.Reads as write-reads
+use denote.Triple.Clauses.{AtExit}
+use Rattle.writing.proofs.file.write as write
+use Rattle.writing.proofs.file.write.Kinds as write-kinds
+use Rattle.writing.proofs.file.write.Reads as write-reads
 
--- of `write`
-module _ (κs : Lfts 3) (a : ArgsD write.signature κs) (r q : ResD write.signature κs) (s t : AtExit (endedOf 3 write-kinds.ps write-kinds.r) κs) where
-  pub write-determined : write-reads.Post κs a r s → write-reads.Post κs a q t → (r ≡ q) × (now (s .1 .1 .1 .1 .1 .0) ≡ now (t .1 .1 .1 .1 .1 .0))
+-- `write`: the answer, `out`
+module _ (κs : Lfts 3) (a : ArgsD write.signature κs) (r q : ResD write.signature κs)
+    (s t : AtExit (endedOf 3 write-kinds.ps write-kinds.r) κs) where
+  pub write-determined : write-reads.Post κs a r s → write-reads.Post κs a q t →
+      (r ≡ q)
+      × (now (s .1 .1 .1 .1 .1 .0) ≡ now (t .1 .1 .1 .1 .1 .0))
   write-determined p e = (p .0 ∙ sym (e .0), p .1 ∙ sym (e .1))

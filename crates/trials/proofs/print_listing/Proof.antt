@@ -3,12 +3,13 @@ use mathlib.Core.Path.{_≡_}
 use Prim.Native.Nat.{_≤_}
 use lib.ListN.{length, take}
 use borrow.Author.Needs.{needs}
-use Rattle.filing.proofs.Enough.{counts}
+use Rattle.laws.proofs.Enough.{counts}
 use Rattle.trials.proofs.print_listing.Statement.{statement}
 use Rattle.trials.proofs.print_listing.Tie as tie
 
 module _ (c : tie.After-listing) where
-  stands : (c .listing .result .length ≤ length (c .listing .last .1 .0)) × (c .listing .result .length ≡ length (take (c .listing .result .length) (c .listing .last .1 .0)))
+  stands : (c .listing .result .length ≤ length (c .listing .last .1 .0)) ×
+      (c .listing .result .length ≡ length (take (c .listing .result .length) (c .listing .last .1 .0)))
   stands =
       let args = c .before .before .before .before .args in
       counts (args .bytes .now) (args .text .now) (c .listing .ensures .0) (c .listing .ensures .1)

@@ -1,0 +1,122 @@
+-- `fill_deviations`: the first k entries are deviation numerators, the later ones are as they were, and `squares` is the squares of the first k
+-- readings. Assumes nothing.
+use mathlib.Core.Path.{_≡_, refl, sym, ap, ap₂, _∙_}
+use mathlib.Core.List.{List}
+use Prim.Native.Nat.{ℕ, _+_, _-_, _*_, _≤_, _<_}
+use native.Mathlib.Omega.{arith}
+use denote.Ref.{now}
+use lib.Dec.{lit<}
+use lib.IntN.{ℤ, pos, natAbs}
+use lib.ListN.{getD, length, length-set}
+use mir.Syntax.{w32, w64}
+use mir.Val.{SFits, toZ}
+use Rattle.algebra.specs.Buffers.{over}
+use Rattle.algebra.proofs.Filling.{over-none, over-step, over-end}
+use Rattle.algebra.proofs.Numbers.{Num, called, unsigned, widened, widened-fits, small-fits, minus, minus-fits, times, times-fits, cast-fits}
+use Rattle.algebra.proofs.Order.{sq-nonneg}
+use Rattle.algebra.proofs.Sums.{sumℕ-none}
+use Rattle.meaning.specs.Analysis.{reading}
+use Rattle.weighing.proofs.SquareSums.{squares-most, squares-more, square-cast}
+use Rattle.analysis.specs.Worked.{totalAt, squaresIn, Held, deviationIn}
+use Rattle.analysis.proofs.Working.{fitted-small}
+use Rattle.analysis.proofs.deviations.fill_deviations.Statement.{statement}
+use Rattle.meaning.specs.Refusals.{readingLimit}
+use Rattle.analysis.proofs.deviations.fill_deviations.Tie as tie
+
+abbrev Inv-loop : tie.InvT-loop
+Inv-loop words readings totals b vbeta deviations₀ scale squares₀ k₀ deviations squares k =
+    (k ≤ b) × (squares ≡ squaresIn readings k) × (deviations ≡ over k (deviationIn words readings (totalAt totals) vbeta) deviations₀) ×
+    (length deviations ≡ length deviations₀)
+
+abbrev μ-loop : tie.MeasureT-loop
+μ-loop words readings totals b vbeta deviations₀ scale squares₀ k₀ deviations squares k = b - k
+
+-- what a turn reads
+module _ (c : tie.After-y Inv-loop μ-loop) where
+  abbrev start : tie.Start Inv-loop μ-loop
+  start = c .before .before .before .before
+
+  abbrev k : ℕ
+  k = c .before .before .loop .k
+
+  abbrev element : ℤ
+  element = reading (now (start .args .readings)) k
+
+  fits : SFits w32 element
+  fits = record { sfits = c .y .given }
+
+  abbrev y : Num
+  y = widened element readingLimit fits (start .pre .0 .readings-most k (omega arith))
+
+  abbrev scale : Num
+  scale = unsigned (start .args .vbeta) 2600 (start .pre .1 .1 .1) (lit< tt)
+
+  abbrev product : Num
+  product = times scale y (lit< tt)
+
+  left-held : Held (now (start .args .totals)) (getD (now (start .args .words)) (2 * k) 0)
+  left-held = start .pre .1 .0 (2 * k) (omega arith)
+
+  right-held : Held (now (start .args .totals)) (getD (now (start .args .words)) (2 * k + 1) 0)
+  right-held = start .pre .1 .0 (2 * k + 1) (omega arith)
+
+-- and what it computes
+module _ (c : tie.After-fitted Inv-loop μ-loop) where
+  abbrev fit : Num
+  fit = called (c .fitted .result) 33280000000 (c .fitted .ensures)
+      (fitted-small (now (start (c .before) .args .words)) (now (start (c .before) .args .totals)) (k (c .before)) (left-held (c .before))
+      (right-held (c .before))) (lit< tt)
+
+  abbrev all : Num
+  all = minus (product (c .before)) fit (lit< tt)
+
+-- the squares so far, and with this reading
+module _ (c : tie.After-y Inv-loop μ-loop) where
+  abbrev ys : List ℤ
+  ys = now (start c .args .readings)
+
+  abbrev square : Num
+  square = times (y c) (y c) (lit< tt)
+
+  with-this : squaresIn ys (k c + 1) ≤ (k c + 1) * (readingLimit * readingLimit)
+  with-this = squares-most ys (k c + 1) readingLimit (λ j l. start c .pre .0 .readings-most j (omega arith))
+
+  next : c .before .before .loop .squares + natAbs (toZ w64 (square .bits)) ≡ squaresIn ys (k c + 1)
+  next = ap₂ _+_ (c .before .before .loop .inv .1) (square-cast (y c) (lit< tt)) ∙ sym (squares-more ys (k c))
+
+loop-again : tie.Need-loop-again Inv-loop μ-loop
+loop-again c =
+    let l = c .before .before .before .loop in
+    let s = start (c .before) in
+    let at : l .k < length (now (s .args .deviations)) = omega (arith, s .pre .1 .1 .0) in
+    (omega arith, next (c .before), over-step (l .k) _ _ (l .inv .2) (all c .reads) at, simp length-set (l .inv .3))
+
+returns : tie.Need-returns Inv-loop μ-loop
+returns c =
+    let end : c .before .loop .k ≡ c .before .before .before .args .b = omega arith in
+    (c .before .loop .inv .1 ∙ ap (squaresIn (now (c .before .before .before .args .readings))) end, over-end _ _ (c .before .loop .inv .2) end)
+
+pub fill-deviations-spec : {M : Type 1} → statement M
+fill-deviations-spec =
+    tie.close
+    (tie.spec
+    Inv-loop
+    μ-loop
+    (λ c. small-fits (pos (c .before .args .vbeta)) (c .before .pre .1 .1 .1) (lit< tt))
+    (λ c. (omega arith, sumℕ-none _, over-none _ _, refl))
+    (λ c. omega arith)
+    (λ c. omega (arith, c .before .before .before .pre .0 .readings-long))
+    (λ c. widened-fits _ (fits c))
+    (λ c. times-fits (y c) (y c) (lit< tt))
+    (λ c. cast-fits (square c) (sq-nonneg (element c)) (lit< tt))
+    (λ c. record { fits = omega (arith, next c, with-this c, start c .pre .0 .blocks-most) })
+    (λ c. times-fits (scale c) (y c) (lit< tt))
+    (λ c κs. (omega (arith, start c .pre .0 .words-long), (left-held c, right-held c)))
+    (λ c. minus-fits (product (c .before)) (fit c) (lit< tt))
+    (λ c. omega arith)
+    (λ c. omega (arith, start (c .before) .pre .1 .1 .0, c .before .before .before .loop .inv .3))
+    (λ c. omega arith)
+    (λ c. omega arith)
+    loop-again
+    (λ c. c .before .loop .inv .3)
+    returns)

@@ -1,0 +1,2 @@
+-- The verdicts of the calls for values, test by test.
+pub mod Refusing

@@ -1,0 +1,106 @@
+-- The verdicts of values, from that of a whole job worked out in rooms that are long enough, and the Value of an object. Assumes nothing.
+use mathlib.Core.Path.{_≡_, refl, sym, ap, _∙_}
+use mathlib.Core.Bool.{true, false}
+use mathlib.Core.List.{List}
+use Prim.Native.Nat.{ℕ, _≤_, _<_}
+use native.Mathlib.Omega.{arith}
+use borrow.Author.Tests.{lt-ltb, le-ltb}
+use lib.Dec.{ltb}
+use lib.IntN.{ℤ, pos}
+use Rattle.records.specs.declared.Head.{Head}
+use Rattle.records.specs.declared.Verdict.{Verdict}
+use Rattle.records.specs.declared.Verdict.the-variants.{Accepted, Refused}
+use Rattle.records.specs.declared.Value.{Value}
+use Rattle.records.specs.declared.ObjectValue.{ObjectValue}
+use Rattle.meaning.specs.Design.{objects}
+use Rattle.meaning.specs.Analysis.{numeratorOf, denominatorOf}
+use Rattle.meaning.specs.Publishing.{published, valueOf, noValue}
+use Rattle.meaning.specs.Refusals.{_⨾_, accepted, refused, number, place, clean, inBalance, restraint, inReach, room}
+use Rattle.meaning.specs.Calls.{given, slices, contents, jobVerdict, rooms, analyseVerdict, valuesVerdict, valueVerdict, valueAnswer}
+use Rattle.laws.proofs.Chains.{Job, opened, accepts, goes-on, refused-stays, test-yes, test-no, job}
+use Rattle.laws.proofs.Analysis.{job-denominator}
+use Rattle.laws.proofs.Sizes.{numerator-most, denominator-most}
+use Rattle.verdicts.proofs.Told.{refusing}
+use Rattle.arithmetic.specs.Quotient.{exact, quotientOf, hundredthsOf, valueFrom}
+use Rattle.arithmetic.proofs.Exact.{Exact, quotient-is, hundredths-is}
+use Rattle.analysis.proofs.Accepting.{rooms-values, rooms-all}
+use Rattle.verdicts.specs.Zeros.{noValueUnder}
+
+module _ (h : Head) (d : List ℕ) (y : List ℤ) (w : ℕ) (M : ℤ) where
+  -- the local rooms are long enough, so the lent one decides
+  pub values-verdict : (len : ℕ) → analyseVerdict h d y w M 2600 len 1300 ≡ valuesVerdict h d y w M len
+  unfolding analyseVerdict valuesVerdict
+  values-verdict len = by (jobVerdict h d y w M) refl
+    where
+      by : (v : Verdict) → jobVerdict h d y w M ≡ v → v ⨾ rooms h 2600 len 1300 ≡ v ⨾ room len (objects h)
+      by Accepted e = rooms-values h (job h d y w M e .measures .design .sizes) len
+      by (Refused k at) e = refl
+
+  -- with all rooms local the job decides
+  pub job-verdict : analyseVerdict h d y w M 2600 50 1300 ≡ jobVerdict h d y w M
+  unfolding analyseVerdict
+  job-verdict = by (jobVerdict h d y w M) refl
+    where
+      by : (v : Verdict) → jobVerdict h d y w M ≡ v → v ⨾ rooms h 2600 50 1300 ≡ v
+      by Accepted e = rooms-all h (job h d y w M e .measures .design .sizes)
+      by (Refused k at) e = refl
+
+  module _ (i : ℕ) where
+    -- the blocks are refused
+    pub value-refused : (k at : ℕ) → slices h d y ⨾ clean h d ≡ refused k at → valueVerdict h d y w M i ≡ refused k at
+    unfolding valueVerdict
+    value-refused k at e = refused-stays _ k at (refused-stays _ k at (refused-stays _ k at (refused-stays _ k at e)))
+
+    module _ (e : slices h d y ⨾ clean h d ≡ accepted) where
+      -- there is no such object
+      pub value-no-object : objects h ≤ i → valueVerdict h d y w M i ≡ refused 5 i
+      unfolding valueVerdict
+      value-no-object l =
+          refused-stays _ 5 i (refused-stays _ 5 i (refused-stays _ 5 i (goes-on _ e ∙ test-no (ltb i (objects h)) 5 i (le-ltb _ _ l))))
+
+      -- there is, and the job decides
+      pub value-job : i < objects h → valueVerdict h d y w M i ≡ jobVerdict h d y w M
+      unfolding valueVerdict jobVerdict contents
+      value-job l =
+          let there = test-yes (ltb i (objects h)) 5 i (lt-ltb _ _ l) in
+          let a = opened (slices h d y) (clean h d) e in
+          ap (λ (v : Verdict). v ⨾ inBalance h d ⨾ restraint h w M ⨾ inReach y) (accepts e there)
+          ∙ sym (goes-on _ (a .0) ∙ ap (λ (v : Verdict). v ⨾ inBalance h d ⨾ restraint h w M ⨾ inReach y) (a .1))
+
+    -- a refusal holds no value
+    pub no-value-is : (v : Verdict) → given v false true ≡ true → valueVerdict h d y w M i ≡ refused (number v) (place v) →
+        noValueUnder v ≡ valueAnswer h d y w M i
+    no-value-is v r e = ap noValueUnder (refusing v r) ∙ sym (ap (λ (v : Verdict). record { verdict = v; value = given v (valueOf h d y w M i) noValue }) e)
+
+    -- an acceptance holds the value
+    pub value-is-given : (x : Value) → valueVerdict h d y w M i ≡ accepted → x ≡ valueOf h d y w M i →
+        _≡_ {A = ObjectValue} (record { verdict = accepted; value = x }) (valueAnswer h d y w M i)
+    value-is-given x e f =
+        ap (λ (z : Value). record { verdict = accepted; value = z }) f
+        ∙ sym (ap (λ (v : Verdict). record { verdict = v; value = given v (valueOf h d y w M i) noValue }) e)
+
+-- ---- the Value
+
+-- a Value of zeros
+pub value-none : valueFrom (pos 0) 0 ≡ noValue
+unfolding quotientOf hundredthsOf exact
+value-none = refl
+
+-- the numbers of an accepted job are f64s exactly, so its Values are the definition's
+pub value-from-is : (h : Head) (d : List ℕ) (y : List ℤ) (w : ℕ) (M : ℤ) (i : ℕ) → Job h d y w M →
+    valueFrom (numeratorOf h d y w M i) (denominatorOf h d w) ≡ valueOf h d y w M i
+unfolding published
+value-from-is h d y w M i j =
+    let s = j .measures .design in
+    let b = j .measures .even in
+    let exactly : Exact (numeratorOf h d y w M i) (denominatorOf h d w) = record {
+      top = omega (arith, numerator-most h d s y (j .measures .readings) b w M i (j .restraint .sum-most));
+      above = job-denominator h d y w M j;
+      bottom = omega (arith, denominator-most h d s b w);
+    } in
+    λ k. record {
+      numerator = numeratorOf h d y w M i;
+      denominator = denominatorOf h d w;
+      hundredths = hundredths-is (numeratorOf h d y w M i) (denominatorOf h d w) exactly k;
+      value = quotient-is (numeratorOf h d y w M i) (denominatorOf h d w) exactly k;
+    }

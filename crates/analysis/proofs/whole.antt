@@ -1,0 +1,2 @@
+-- A job and its rooms, test by test.
+pub mod Rooms

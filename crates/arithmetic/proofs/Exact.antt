@@ -1,0 +1,75 @@
+-- The exact range as facts, and what the two answers are inside it. Assumes nothing.
+use mathlib.Core.Path.{_≡_}
+use mathlib.Core.Bool.{true, false, _&&_}
+use Prim.Native.Nat.{ℕ, _^_, _≤_, _<_}
+use lib.IntN.{ℤ, natAbs}
+use lib.Ieee.{Float}
+use lib.Dec.{ltb}
+use borrow.Author.Tests.{ltb-true, lt-ltb, le-ltb}
+use Rattle.algebra.proofs.Tests.{and-left, and-right, and-both, and-fails-left, and-fails-right}
+use Rattle.meaning.specs.Publishing.{nearestHundredths, float, Near}
+use Rattle.records.specs.declared.Value.{Value}
+use Rattle.arithmetic.specs.Quotient.{exact, quotientOf, hundredthsOf, valueFrom}
+use Rattle.arithmetic.proofs.Floats.{float-near}
+
+-- ---- the range
+
+-- both numbers are f64s exactly, and the denominator is not 0
+pub record Exact (a : ℤ) (d : ℕ) : Type 0 where
+  pub top : natAbs a < 2 ^ 53
+  pub above : 0 < d
+  pub bottom : d < 2 ^ 53
+
+-- the test accepts only such numbers
+pub exact-is : (a : ℤ) (d : ℕ) → exact a d ≡ true → Exact a d
+unfolding exact
+exact-is a d e =
+    let rest = and-right (ltb (natAbs a) (2 ^ 53)) (ltb 0 d && ltb d (2 ^ 53)) e in
+    record {
+      top = ltb-true _ _ (and-left (ltb (natAbs a) (2 ^ 53)) (ltb 0 d && ltb d (2 ^ 53)) e);
+      above = ltb-true _ _ (and-left (ltb 0 d) (ltb d (2 ^ 53)) rest);
+      bottom = ltb-true _ _ (and-right (ltb 0 d) (ltb d (2 ^ 53)) rest);
+    }
+
+-- and accepts all such numbers
+pub is-exact : (a : ℤ) (d : ℕ) → Exact a d → exact a d ≡ true
+unfolding exact
+is-exact a d x = and-both (lt-ltb _ _ (x .top)) (and-both (lt-ltb _ _ (x .above)) (lt-ltb _ _ (x .bottom)))
+
+-- a numerator that is too large is refused
+pub top-large : (a : ℤ) (d : ℕ) → 2 ^ 53 ≤ natAbs a → exact a d ≡ false
+unfolding exact
+top-large a d h = and-fails-left (ltb 0 d && ltb d (2 ^ 53)) (le-ltb _ _ h)
+
+-- a denominator of 0 is refused
+pub bottom-zero : (a : ℤ) (d : ℕ) → d ≤ 0 → exact a d ≡ false
+unfolding exact
+bottom-zero a d h = and-fails-right (ltb (natAbs a) (2 ^ 53)) (and-fails-left (ltb d (2 ^ 53)) (le-ltb _ _ h))
+
+-- a denominator that is too large is refused
+pub bottom-large : (a : ℤ) (d : ℕ) → 2 ^ 53 ≤ d → exact a d ≡ false
+unfolding exact
+bottom-large a d h = and-fails-right (ltb (natAbs a) (2 ^ 53)) (and-fails-right (ltb 0 d) (le-ltb _ _ h))
+
+-- ---- the answers inside the range
+
+-- the f64 is the quotient rounded once
+pub quotient-is : (a : ℤ) (d : ℕ) → Exact a d → quotientOf a d ≡ float a d
+unfolding quotientOf
+quotient-is a d x = rw (is-exact a d x)
+
+-- it has the fraction's sign, and is at most the fraction's size divided by 2 to the power 53 away from it
+pub quotient-near : (a : ℤ) (d : ℕ) → Exact a d → Near 53 (quotientOf a d) a d
+quotient-near a d x = rw (quotient-is a d x) (search (float-near a d (x .top) (x .above) (x .bottom)))
+
+-- the hundredths are the nearest
+pub hundredths-is : (a : ℤ) (d : ℕ) → Exact a d → hundredthsOf a d ≡ nearestHundredths a d
+unfolding hundredthsOf
+hundredths-is a d x = rw (is-exact a d x)
+
+-- ---- the value
+
+-- it is made from its parts
+pub value-is : (a : ℤ) (d : ℕ) (b k : ℤ) (x : Float) → b ≡ a → k ≡ hundredthsOf a d → x ≡ quotientOf a d
+    → _≡_ {A = Value} (record { numerator = b; denominator = d; hundredths = k; value = x }) (valueFrom a d)
+value-is a d b k x e g h = λ j. record { numerator = e j; denominator = d; hundredths = g j; value = h j }

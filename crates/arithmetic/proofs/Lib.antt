@@ -1,0 +1,6 @@
+-- The exact range of a quotient, the floats and the examples of it, the range of a spread, and that each promise determines its outcome.
+pub mod Exact
+pub mod Floats
+pub mod Spreads
+pub mod Examples
+pub mod Determined

@@ -1,0 +1,38 @@
+-- `arithmetic::quotient::size`: for x below 0, `!x` is one less than its size. Assumes nothing.
+use borrow.Author.Needs.{needs}
+use mathlib.Core.Path.{_≡_, sym}
+use mathlib.Core.Bool.{true}
+use Prim.Native.Nat.{_-_, _^_}
+use native.Mathlib.Omega.{arith}
+use lib.IntN.{pos}
+use lib.Signed.{ltZ, mag}
+use mir.Syntax.{w64}
+use mir.Val.{toZ, ofZ}
+use mir.Facts.{toZ-ofZ}
+use Rattle.algebra.proofs.Signs.{plain, not-below, size-below, flipped, size-fits}
+use Rattle.arithmetic.proofs.quotient.size.Statement.{statement}
+use Rattle.arithmetic.proofs.quotient.size.Tie as tie
+
+module _ (c : tie.Then1) where
+  below : ltZ (c .before .args .x) (pos 0) ≡ true
+  below = plain (c .before .args .x) (c .before .fits .x) (c .if1 .taken)
+
+  flip : toZ w64 (2 ^ 64 - 1 - ofZ w64 (c .before .args .x)) ≡ pos (mag (c .before .args .x))
+  flip = flipped (c .before .args .x) (c .before .fits .x) below
+
+cast-result : tie.Need-cast-result
+cast-result c = rw (flip c) (tt, record { fits = omega (arith, c .before .fits .x .sfits) })
+
+add-result : tie.Need-add-result
+add-result c = rw (flip c) (record { fits = omega (arith, c .before .fits .x .sfits) })
+
+cast-result-2 : tie.Need-cast-result-2
+cast-result-2 c =
+    let x = c .before .args .x in
+    rw (toZ-ofZ (c .before .fits .x)) (not-below x (plain x (c .before .fits .x) (c .if1 .left)), size-fits x (c .before .fits .x))
+
+returns : tie.Need-returns
+returns c = rw (flip c) (search (sym (size-below (c .before .args .x) (below c))))
+
+pub size-spec : {M : Type 1} → statement M
+size-spec = tie.close (tie.spec cast-result add-result cast-result-2 returns (λ c. search needs))

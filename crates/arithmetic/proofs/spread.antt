@@ -1,0 +1,2 @@
+-- The law behind the last two digits of the hundredths.
+pub mod Hundreds

@@ -1,0 +1,10 @@
+// The numbers that are published. The face: a Value from its fraction, its nearest hundredths, the size of a signed number, and the spread from Q,
+// v·beta and f. Each is total.
+mod quotient;
+mod rounding;
+mod spread;
+
+pub use quotient::size;
+pub use quotient::value_from;
+pub use rounding::hundredths;
+pub use spread::spread_from;

@@ -1,2 +1,0 @@
--- What a refused deviation is.
-pub mod Answers

@@ -1,0 +1,2 @@
+-- The order of the tests of the fields.
+pub mod Order

@@ -1,0 +1,2 @@
+-- What stands in the fields of a file.
+pub mod Contents

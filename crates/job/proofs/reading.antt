@@ -1,0 +1,2 @@
+-- A direct call on what a file holds.
+pub mod Directly

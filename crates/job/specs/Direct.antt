@@ -1,0 +1,25 @@
+-- A direct call on what a file holds. Assumes nothing.
+use Prim.Native.Nat.{ℕ}
+use mathlib.Core.List.{List}
+use Rattle.records.specs.declared.Solved.{Solved}
+use Rattle.records.specs.declared.Verdict.{Verdict}
+use Rattle.meaning.specs.Calls.{jobVerdict}
+use Rattle.meaning.specs.File.{headOf, blocksOf, readingsOf, setOf, sumOf, placed}
+
+-- its verdict
+abbrev pub directVerdict : List ℕ → Verdict
+directVerdict s = jobVerdict (headOf s) (blocksOf s) (readingsOf s) (setOf s) (sumOf s)
+
+-- a place that no such refusal goes beyond: a job has at most 3,200 bytes of blocks and 1,300 readings
+abbrev pub placeLimit : ℕ
+placeLimit = 4500
+
+-- a job worked out, its verdict moved to its place in the file: all else stays
+abbrev pub solvedIn : List ℕ → Solved → Solved
+solvedIn s solved = record {
+  verdict = placed s (solved .verdict);
+  parameters = solved .parameters;
+  denominator = solved .denominator;
+  spreading =
+      solved .spreading;
+}

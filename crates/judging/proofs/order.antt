@@ -1,0 +1,2 @@
+-- A job's verdict, test by test.
+pub mod Jobs

@@ -1,3 +1,0 @@
--- What laying slots rests on, and what the promise rules out.
-pub mod Laying
-pub mod Determined

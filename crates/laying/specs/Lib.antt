@@ -1,2 +1,0 @@
--- What laying slots leaves in an answer.
-pub mod Laid

@@ -1,2 +1,0 @@
--- What the promises rule out.
-pub mod Determined

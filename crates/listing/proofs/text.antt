@@ -1,0 +1,2 @@
+-- A text into lent room.
+pub mod Room

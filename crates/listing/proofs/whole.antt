@@ -1,0 +1,2 @@
+-- What was worked out gives the text of the file.
+pub mod Worked

@@ -1,0 +1,2 @@
+-- The laws of signed numbers in bytes.
+pub mod Halves

@@ -1,2 +1,0 @@
--- What is counted in words, and where it goes.
-pub mod Meetings

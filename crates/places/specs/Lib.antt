@@ -1,2 +1,0 @@
--- What this crate promises beyond the definitions of the bench.
-pub mod Moved

@@ -1,2 +1,0 @@
--- What the two public functions answer, on every input.
-pub mod Quotient

@@ -1,2 +1,0 @@
--- What the promise determines.
-pub mod Determined

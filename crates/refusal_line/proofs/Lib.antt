@@ -1,2 +1,0 @@
--- What determines the outcome of the public function.
-pub mod Determined

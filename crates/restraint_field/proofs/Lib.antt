@@ -1,2 +1,0 @@
--- What the promises determine.
-pub mod Determined

@@ -1,3 +1,0 @@
--- What is proved of two objects in words.
-pub mod Masks
-pub mod Determined

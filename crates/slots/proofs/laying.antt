@@ -1,0 +1,2 @@
+-- What laying slots rests on.
+pub mod Laying

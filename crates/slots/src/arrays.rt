@@ -1,0 +1,96 @@
+// The slots of an answer as an array, in their order.
+use records::JobRead;
+use records::Parameters;
+use records::Solved;
+use records::Spread;
+use records::Spreading;
+ghost use mathlib.Core.Path.{_≡_};
+ghost use Rattle.meaning.specs.Publishing.{spreadValue};
+ghost use Rattle.slots.specs.Slots.{parameterSlots, hasSpread, spreadingSlots, solvedSlots, readSlots};
+
+// The parameters of a design.
+pub(crate) fn parameter_slots(parameters: Parameters) -> [u64; 6]
+    ensures { λ r. ⌜ r ≡ parameterSlots parameters ⌝ }
+{
+    [
+        parameters.v,
+        parameters.b,
+        parameters.r,
+        parameters.p,
+        parameters.l1,
+        parameters.l2,
+    ]
+}
+
+// What a spread is made from.
+pub(crate) fn spreading_slots(spreading: Spreading) -> [u64; 5]
+    ensures { λ r. ⌜ r ≡ spreadingSlots spreading ⌝ }
+{
+    let spread = spreading.spread;
+    [
+        spreading.q,
+        spreading.vbeta,
+        spreading.freedom,
+        spreading.hundredths,
+        has_spread(spread),
+    ]
+}
+
+// A job worked out.
+pub(crate) fn solved_slots(solved: Solved) -> [u64; 12]
+    ensures { λ r. ⌜ r ≡ solvedSlots solved ⌝ }
+{
+    let design = solved.parameters;
+    let measured = solved.spreading;
+    let spread = measured.spread;
+    [
+        design.v,
+        design.b,
+        design.r,
+        design.p,
+        design.l1,
+        design.l2,
+        solved.denominator,
+        measured.q,
+        measured.vbeta,
+        measured.freedom,
+        measured.hundredths,
+        has_spread(spread),
+    ]
+}
+
+// A job that was read.
+pub(crate) fn read_slots(read: JobRead) -> [u64; 7]
+    ensures { λ r. ⌜ r ≡ readSlots read ⌝ }
+{
+    let head = read.head;
+    [
+        head.n as u64,
+        head.flag as u64,
+        head.p as u64,
+        head.m as u64,
+        read.blocks_at as u64,
+        read.readings_at as u64,
+        read.set,
+    ]
+}
+
+// The f64 of a spread, 0.0 where there is none.
+pub(crate) fn spread_value(spread: Spread) -> f64
+    ensures { λ r. ⌜ r ≡ spreadValue spread ⌝ }
+{
+    match spread {
+        Spread::Of(value, _) => value,
+        Spread::None => 0.0,
+    }
+}
+
+// 1 where there is a spread, and 0 where there is none.
+fn has_spread(spread: Spread) -> u64
+    ensures { λ r. ⌜ r ≡ hasSpread spread ⌝ }
+{
+    match spread {
+        Spread::Of(_, _) => 1,
+        Spread::None => 0,
+    }
+}

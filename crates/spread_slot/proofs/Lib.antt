@@ -1,2 +1,0 @@
--- What the promise rules out.
-pub mod Determined

@@ -1,2 +1,0 @@
--- Where the promises determine the outcome.
-pub mod Determined

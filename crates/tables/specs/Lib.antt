@@ -1,2 +1,0 @@
--- What the private function fills.
-pub mod Pair

@@ -1,2 +1,0 @@
--- Whether there is a spread, as a number.
-pub mod Told

@@ -1,2 +1,0 @@
--- What the private functions of this crate speak of, beside the definitions of the base.
-pub mod Answers

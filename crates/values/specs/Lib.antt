@@ -1,2 +1,0 @@
--- What a refused value is.
-pub mod Answers

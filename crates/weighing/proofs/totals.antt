@@ -1,0 +1,2 @@
+-- The laws of the verdicts of totals.
+pub mod Refusing

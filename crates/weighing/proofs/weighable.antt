@@ -1,0 +1,2 @@
+-- The laws of the first word that strays.
+pub mod Refusing

@@ -1,0 +1,2 @@
+-- What is proved of two objects in words.
+mod Masks

@@ -1,0 +1,2 @@
+-- How long the slices of an accepted job are.
+pub mod Slices

@@ -1,29 +1,46 @@
-/* The mass bench for C: four calls of target/staticlib/libapi.a, which `rt staticlib api` writes.
+/* The mass bench for C: the calls of target/staticlib/libapi.a, which `rt staticlib api` writes. It is proved for x86-64 Linux.
  *
- * Each call takes any input, ends, and hands back a refusal number, 0 where it accepts. The rest of its answer is laid into
- * `answer`: the call's own slots, listed below, from the front. A shorter `answer` takes the first of them; of a longer one the
- * slots after the call's own stay as they were. Where bench_judge, bench_solve or bench_write refuses, slot 0 is the place and
- * its other slots are 0. bench_listing has no place: its one slot is the length of the text, 0 where it refuses.
- * A lent buffer is a pointer and its length in elements. The pointer is not NULL, also where the length is 0, and buffers
- * that a call writes overlap no other buffer of the call. A refusal writes nothing but `answer` and `spread`.
+ * Every call takes any input, ends, and hands back one number: 0 exactly where it accepts, else its refusal,
+ *
+ *     number + 2^8 * index + 2^16 * place
+ *
+ * which BENCH_NUMBER, BENCH_INDEX and BENCH_PLACE take apart. The index is 0 in every call so far. A place that is the caller's
+ * own number, as an object that does not exist, is handed back modulo 2^48.
+ *
+ * What is lent. A buffer is a pointer and its length in elements. The pointer is not NULL, also where the length is 0, and
+ * buffers that a call writes overlap no other buffer of the call. Two kinds of buffer are written:
+ *   rooms: `words`, `table`, `values`, `deviations`, `out`;
+ *   slots, after all other arguments: `signed_slots` for signed answers, `answer` for unsigned ones, `real` for doubles.
+ *
+ * What is written, and when. A call that accepts writes the first entries of its rooms and its own slots, listed below, from the
+ * front; later entries stay as they were. A call that is refused writes nowhere, its slots included.
+ *
+ * no. | given when                                                        | place in a file  | place in another call
+ *   1 | a field's three-byte start or its body runs past the end          | field start      | -
+ *   2 | another tag stands there                                          | field start      | -
+ *   3 | the length is not the one required: of a field; of a slice        | field start      | 0
+ *   4 | a size is broken                                                  | field start      | 0
+ *   5 | an object is out of range, is the fixed object with flag 0, or    | that byte        | its index in `blocks`
+ *     | was already in its block; then: there is no object, initial       |                  |
+ *     | block or block of the number asked for                            | -                | that number
+ *   6 | the developed design is unbalanced                                | 0                | 0
+ *   7 | the restraint set is empty or has a bit at v or above, or its     | field start      | 0
+ *     | accepted sum is out of range                                      |                  |
+ *   8 | a reading is out of range                                         | its first byte   | its index in `readings`
+ *   9 | bytes follow the fourth field                                     | first such byte  | -
+ *  10 | a room is too short, or slots of any kind are too few             | 0                | 0
+ * A call that takes no file looks, of what it takes, for 4, then 3, 5, 6, 7, 8. A file is looked at field by field: 1 for the start,
+ * 2, 3, 1 for the body; 4 right after the first field; after the fourth 9; then 5, 6, 7, 8. 10 comes last in every call. Development,
+ * tables, totals and sums of squares need no balance: no 6. Deviations, Q and spread take no restraint: no 7.
+ *
+ * Sizes: n from 3 to 50; flag 0, or 1 where the fixed object takes part; v = n + flag at most 50; p at least 1, 2p at most v; m from 1
+ * to 64; b = m*n at most 1,300; readings within +-200,000; the accepted sum within +-1,000,000,000.
  *
  * Calls may be made from several threads at once, each with its own buffers to write: the library keeps nothing between calls.
- * Of the stack bench_judge and bench_write take about 62 KB each, bench_solve 68 KB, bench_listing 99 KB; a thread that makes
- * them needs about 104 KB with what the thread itself takes. That is measured with the archive for x86-64, not proved.
- *
- * no. | given when                                                                            | place
- *   1 | a field's three-byte start or its body runs past the end                              | field start
- *   2 | another tag stands there                                                              | field start
- *   3 | the length is not the one required                                                    | field start
- *   4 | a size is broken                                                                      | field start
- *   5 | an object is out of range, is the fixed object with flag 0, or was already in its block | that byte
- *   6 | the developed design is unbalanced                                                    | 0
- *   7 | the restraint set is empty or has a bit at v or above, or its sum is out of range     | field start
- *   8 | a reading is out of range                                                             | its first byte
- *   9 | bytes follow the fourth field                                                         | first such byte
- *  10 | a lent buffer is too short                                                            | 0
- * For bench_judge and bench_write, which take no file, the place is the object's index for 5, the reading's for 8, and 0 otherwise;
- * 3 is given there for a list of the wrong length.
+ * Of the stack bench_listing takes about 99 KB; bench_values, bench_value_of, bench_deviation_of, bench_q and bench_spread 94 KB;
+ * bench_deviations and bench_analyse 83 KB; bench_read and bench_solve 68 KB; bench_company, bench_opposition, bench_judge,
+ * bench_refusal and bench_write 62 KB; bench_total and bench_sum_of_squared_totals 22 KB; the others less than 1 KB. A thread that
+ * makes any of them needs about 104 KB with what the thread itself takes. That is measured with the archive for x86-64, not proved.
  */
 #ifndef BENCH_H
 #define BENCH_H
@@ -35,64 +52,208 @@
 extern "C" {
 #endif
 
-/* Room that is enough for every job. */
-enum { BENCH_WORDS = 2600, BENCH_VALUES = 50, BENCH_DEVIATIONS = 1300, BENCH_FILE = 6584, BENCH_TEXT = 65536 };
+/* What a call handed back, taken apart. */
+#define BENCH_NUMBER(returned) ((int)((returned) & 255))
+#define BENCH_INDEX(returned) ((int)((returned) >> 8 & 255))
+#define BENCH_PLACE(returned) ((uint64_t)(returned) >> 16)
 
-/* The slots of `answer`. */
+/* Rooms that are enough for every job. */
+enum { BENCH_WORDS = 2600, BENCH_TABLE = 2500, BENCH_VALUES = 50, BENCH_DEVIATIONS = 1300, BENCH_FILE = 6584, BENCH_TEXT = 65536 };
+
+/* `answer` of bench_judge; bench_analyse and bench_solve have more behind it. */
 enum {
-    BENCH_PLACE = 0,       /* of a refusal, but for bench_listing; 0 where the call accepts */
-    BENCH_V = 1,           /* objects */
-    BENCH_B = 2,           /* blocks */
-    BENCH_R = 3,           /* beta(v - 1) */
-    BENCH_P = 4,           /* objects a side */
-    BENCH_L1 = 5,          /* blocks in which two objects share a side */
-    BENCH_L2 = 6,          /* blocks in which two objects oppose */
-    BENCH_JUDGE_SLOTS = 7, /* so far for bench_judge; further for bench_solve: */
-    BENCH_DENOMINATOR = 7, /* of every value */
-    BENCH_Q = 8,           /* v·beta times the sum of squared deviations */
-    BENCH_VBETA = 9,       /* v·beta, the denominator of every deviation */
-    BENCH_FREEDOM = 10,    /* degrees of freedom */
-    BENCH_HUNDREDTHS = 11, /* the spread in whole hundredths of a count */
-    BENCH_HAS_SPREAD = 12, /* 1 where there is a spread, 0 where there is no degree of freedom */
-    BENCH_SOLVE_SLOTS = 13,
-    BENCH_WRITTEN = 1,     /* bench_write: the bytes written, after BENCH_PLACE */
-    BENCH_WRITE_SLOTS = 2,
-    BENCH_LENGTH = 0,      /* bench_listing: the bytes written */
-    BENCH_LISTING_SLOTS = 1
+    BENCH_V = 0,  /* objects */
+    BENCH_B = 1,  /* blocks */
+    BENCH_R = 2,  /* beta(v - 1) */
+    BENCH_P = 3,  /* objects a side */
+    BENCH_L1 = 4, /* blocks in which two objects share a side */
+    BENCH_L2 = 5, /* blocks in which two objects oppose */
+    BENCH_JUDGE_SLOTS = 6
 };
 
-/* Judges a design: n residues, flag 1 if the fixed object takes part, p objects a side, m initial blocks.
- * `blocks` has the m initial blocks, each p left objects, then p right ones, a byte each; 255 is the fixed object. */
-uint8_t bench_judge(size_t n, size_t flag, size_t p, size_t m,
-                    const uint8_t *blocks, size_t blocks_length,
+/* `answer` of bench_analyse and bench_solve, after the six above; `real`[0] is the spread, 0.0 where there is none. */
+enum {
+    BENCH_DENOMINATOR = 6, /* of every value */
+    BENCH_Q = 7,           /* v*beta times the sum of squared deviations */
+    BENCH_VBETA = 8,       /* v*beta, the denominator of every deviation */
+    BENCH_FREEDOM = 9,     /* degrees of freedom */
+    BENCH_HUNDREDTHS = 10, /* the spread in whole hundredths of a count */
+    BENCH_HAS_SPREAD = 11, /* 1 where there is a spread, 0 where there is no degree of freedom */
+    BENCH_SOLVE_SLOTS = 12,
+    BENCH_SOLVE_REAL_SLOTS = 1
+};
+
+/* `answer` of bench_spread: the last five of those; `real`[0] is the spread. */
+enum {
+    BENCH_SPREAD_Q = 0,
+    BENCH_SPREAD_VBETA = 1,
+    BENCH_SPREAD_FREEDOM = 2,
+    BENCH_SPREAD_HUNDREDTHS = 3,
+    BENCH_SPREAD_HAS_SPREAD = 4,
+    BENCH_SPREAD_SLOTS = 5,
+    BENCH_SPREAD_REAL_SLOTS = 1
+};
+
+/* bench_value_of: `signed_slots`, then `answer`, then `real`. */
+enum {
+    BENCH_VALUE_NUMERATOR = 0,
+    BENCH_VALUE_HUNDREDTHS = 1, /* published: the nearest hundredths of a count */
+    BENCH_VALUE_SIGNED_SLOTS = 2,
+    BENCH_VALUE_DENOMINATOR = 0,
+    BENCH_VALUE_SLOTS = 1,
+    BENCH_VALUE_REAL = 0, /* numerator / denominator */
+    BENCH_VALUE_REAL_SLOTS = 1
+};
+
+/* bench_deviation_of: `signed_slots`, then `answer`. bench_total: `signed_slots`. The sums of squares and bench_q: `answer`. */
+enum {
+    BENCH_DEVIATION_NUMERATOR = 0,
+    BENCH_DEVIATION_SIGNED_SLOTS = 1,
+    BENCH_DEVIATION_DENOMINATOR = 0,
+    BENCH_DEVIATION_SLOTS = 1,
+    BENCH_TOTAL = 0,
+    BENCH_TOTAL_SIGNED_SLOTS = 1,
+    BENCH_SUM = 0,
+    BENCH_SUM_SLOTS = 1
+};
+
+/* bench_field_at: `answer`. bench_read: `signed_slots`, then `answer`. bench_write and bench_listing: `answer`. */
+enum {
+    BENCH_FIELD_BODY = 0, /* where the body starts */
+    BENCH_FIELD_NEXT = 1, /* the byte after it */
+    BENCH_FIELD_SLOTS = 2,
+    BENCH_READ_SUM = 0,
+    BENCH_READ_SIGNED_SLOTS = 1,
+    BENCH_READ_N = 0,
+    BENCH_READ_FLAG = 1,
+    BENCH_READ_P = 2,
+    BENCH_READ_M = 3,
+    BENCH_READ_BLOCKS_AT = 4,   /* the byte at which the initial blocks start */
+    BENCH_READ_READINGS_AT = 5, /* the byte at which the readings start */
+    BENCH_READ_SET = 6,
+    BENCH_READ_SLOTS = 7,
+    BENCH_LENGTH = 0, /* the bytes written */
+    BENCH_LENGTH_SLOTS = 1
+};
+
+/* ---- designs: n residues, flag 1 if the fixed object takes part, p objects a side, m initial blocks. `blocks` has the m initial
+ * blocks, each p left objects, then p right ones, a byte each; 255 is the fixed object, which is object n everywhere else. */
+
+/* Why a block list is refused: 4, 3, 5. */
+uint64_t bench_pairs_refusal(size_t n, size_t flag, size_t p, size_t m, const uint8_t *blocks, size_t blocks_length);
+
+/* Develops every initial block: 2b words, left word, right word, next shift; bit i of a word is object i. */
+uint64_t bench_develop(size_t n, size_t flag, size_t p, size_t m, const uint8_t *blocks, size_t blocks_length,
+                       uint64_t *words, size_t words_length);
+
+/* Develops initial block j into its own 2n words, from word 2nj on; the others stay. Room for all 2b is asked for. */
+uint64_t bench_develop_initial(size_t n, size_t flag, size_t p, size_t m, const uint8_t *blocks, size_t blocks_length,
+                               size_t j, uint64_t *words, size_t words_length);
+
+/* In how many blocks objects i and j share a side, and in how many they oppose: entry 50i + j of BENCH_TABLE. On the diagonal, in
+ * how many blocks i stands, and 0. Entries past the objects are 0. */
+uint64_t bench_company(size_t n, size_t flag, size_t p, size_t m, const uint8_t *blocks, size_t blocks_length,
+                       uint64_t *table, size_t table_length);
+uint64_t bench_opposition(size_t n, size_t flag, size_t p, size_t m, const uint8_t *blocks, size_t blocks_length,
+                          uint64_t *table, size_t table_length);
+
+/* Judges whether a design is balanced. */
+uint64_t bench_judge(size_t n, size_t flag, size_t p, size_t m, const uint8_t *blocks, size_t blocks_length,
+                     uint64_t *answer, size_t answer_length);
+
+/* ---- jobs: a design with its readings, b of them, all shifts of the first initial block, then of the second; and a restraint set,
+ * of which bit i is object i, with its accepted sum. */
+
+/* The total of one object: the readings with it on the left less those with it on the right. */
+uint64_t bench_total(size_t n, size_t flag, size_t p, size_t m, const uint8_t *blocks, size_t blocks_length,
+                     const int32_t *readings, size_t readings_length, size_t object,
+                     int64_t *signed_slots, size_t signed_slots_length);
+
+/* The sum of the squared readings, which takes no blocks, and that of the squared totals. */
+uint64_t bench_sum_of_squares(size_t n, size_t flag, size_t p, size_t m,
+                              const int32_t *readings, size_t readings_length,
+                              uint64_t *answer, size_t answer_length);
+uint64_t bench_sum_of_squared_totals(size_t n, size_t flag, size_t p, size_t m, const uint8_t *blocks, size_t blocks_length,
+                                     const int32_t *readings, size_t readings_length,
+                                     uint64_t *answer, size_t answer_length);
+
+/* Why a whole job is refused: 4, 3, 5, 6, 7, 8. */
+uint64_t bench_refusal(size_t n, size_t flag, size_t p, size_t m, const uint8_t *blocks, size_t blocks_length,
+                       const int32_t *readings, size_t readings_length, uint64_t set, int64_t sum);
+
+/* The v numerators of the values. Their denominator is that of bench_value_of and of bench_analyse. */
+uint64_t bench_values(size_t n, size_t flag, size_t p, size_t m, const uint8_t *blocks, size_t blocks_length,
+                      const int32_t *readings, size_t readings_length, uint64_t set, int64_t sum,
+                      int64_t *values, size_t values_length);
+
+/* The value of one object. */
+uint64_t bench_value_of(size_t n, size_t flag, size_t p, size_t m, const uint8_t *blocks, size_t blocks_length,
+                        const int32_t *readings, size_t readings_length, uint64_t set, int64_t sum, size_t object,
+                        int64_t *signed_slots, size_t signed_slots_length,
+                        uint64_t *answer, size_t answer_length,
+                        double *real, size_t real_length);
+
+/* The b numerators of the deviations. Their denominator is that of bench_deviation_of, v*beta. */
+uint64_t bench_deviations(size_t n, size_t flag, size_t p, size_t m, const uint8_t *blocks, size_t blocks_length,
+                          const int32_t *readings, size_t readings_length,
+                          int64_t *deviations, size_t deviations_length);
+
+/* The deviation of one block. */
+uint64_t bench_deviation_of(size_t n, size_t flag, size_t p, size_t m, const uint8_t *blocks, size_t blocks_length,
+                            const int32_t *readings, size_t readings_length, size_t block,
+                            int64_t *signed_slots, size_t signed_slots_length,
+                            uint64_t *answer, size_t answer_length);
+
+/* Q: v*beta times the sum of squared deviations. */
+uint64_t bench_q(size_t n, size_t flag, size_t p, size_t m, const uint8_t *blocks, size_t blocks_length,
+                 const int32_t *readings, size_t readings_length,
+                 uint64_t *answer, size_t answer_length);
+
+/* The spread, with all that it is made from. */
+uint64_t bench_spread(size_t n, size_t flag, size_t p, size_t m, const uint8_t *blocks, size_t blocks_length,
+                      const int32_t *readings, size_t readings_length,
+                      uint64_t *answer, size_t answer_length,
+                      double *real, size_t real_length);
+
+/* Everything at once: 2b words, v numerators of the values, b numerators of the deviations, and the slots of BENCH_SOLVE_SLOTS. */
+uint64_t bench_analyse(size_t n, size_t flag, size_t p, size_t m, const uint8_t *blocks, size_t blocks_length,
+                       const int32_t *readings, size_t readings_length, uint64_t set, int64_t sum,
+                       uint64_t *words, size_t words_length,
+                       int64_t *values, size_t values_length,
+                       int64_t *deviations, size_t deviations_length,
+                       uint64_t *answer, size_t answer_length,
+                       double *real, size_t real_length);
+
+/* ---- files */
+
+/* The field at a place of some bytes, by its tag and the length that its body must have: 1, 2, 3, 1, each at that place. */
+uint64_t bench_field_at(const uint8_t *bytes, size_t bytes_length, size_t place, uint8_t tag, size_t length,
+                        uint64_t *answer, size_t answer_length);
+
+/* Reads a job file. */
+uint64_t bench_read(const uint8_t *bytes, size_t bytes_length,
+                    int64_t *signed_slots, size_t signed_slots_length,
                     uint64_t *answer, size_t answer_length);
 
-/* Works a job file out. `words`: left word, right word, block after block, one bit an object. `values`: an object's value is
- * values[i] / answer[BENCH_DENOMINATOR]. `deviations`: a block's is deviations[k] / answer[BENCH_VBETA].
- * spread[0]: the spread as a double; 0.0 where there is none. Later entries of every buffer stay. */
-uint8_t bench_solve(const uint8_t *bytes, size_t bytes_length,
-                    uint64_t *words, size_t words_length,
-                    int64_t *values, size_t values_length,
-                    int64_t *deviations, size_t deviations_length,
-                    uint64_t *answer, size_t answer_length,
-                    double *spread, size_t spread_length);
+/* Works a job file out, as bench_analyse does its parts. */
+uint64_t bench_solve(const uint8_t *bytes, size_t bytes_length,
+                     uint64_t *words, size_t words_length,
+                     int64_t *values, size_t values_length,
+                     int64_t *deviations, size_t deviations_length,
+                     uint64_t *answer, size_t answer_length,
+                     double *real, size_t real_length);
 
-/* Writes the file of a job to the front of `out`, which takes 32 + 2pm + 4b bytes of it, where b = m·n; later bytes stay, and on a
- * refusal all. The design as for bench_judge; `set`: bit i is object i, the fixed object being n; `sum`: its accepted sum;
- * `readings`: b of them, all shifts of the first initial block, then of the second. Reading the file gives back the job, and no
- * other bytes do. */
-uint8_t bench_write(size_t n, size_t flag, size_t p, size_t m,
-                    const uint8_t *blocks, size_t blocks_length,
-                    uint64_t set, int64_t sum,
-                    const int32_t *readings, size_t readings_length,
-                    uint8_t *out, size_t out_length,
-                    uint64_t *answer, size_t answer_length);
+/* Writes the file of a job to the front of `out`, 32 + 2pm + 4b bytes. Reading it gives the job back, and no other bytes do. */
+uint64_t bench_write(size_t n, size_t flag, size_t p, size_t m, const uint8_t *blocks, size_t blocks_length,
+                     uint64_t set, int64_t sum, const int32_t *readings, size_t readings_length,
+                     uint8_t *out, size_t out_length,
+                     uint64_t *answer, size_t answer_length);
 
-/* Writes the text that the bench prints for a job file to the front of `out`: its listing, or the line of its refusal.
- * The number handed back is 0, or 10 where `out` is too short, and then nothing is written; BENCH_TEXT bytes are always enough. */
-uint8_t bench_listing(const uint8_t *bytes, size_t bytes_length,
-                      uint8_t *out, size_t out_length,
-                      uint64_t *answer, size_t answer_length);
+/* Writes the text that the bench prints for a job file to the front of `out`: its listing, or the line of its refusal. The call
+ * itself is refused by 10 alone; BENCH_TEXT bytes are always enough. */
+uint64_t bench_listing(const uint8_t *bytes, size_t bytes_length,
+                       uint8_t *out, size_t out_length,
+                       uint64_t *answer, size_t answer_length);
 
 #ifdef __cplusplus
 }

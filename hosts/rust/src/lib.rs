@@ -1,48 +1,24 @@
 //! The mass bench for Rust: safe calls of the proved static library. The proved functions take every input, so no call here can fail but by a [`Refusal`].
-//! What each answers is proved for the archive that `rt staticlib api` writes, for x86-64. What this crate adds is not proved: its few lines of `unsafe`, each
-//! with its reason, lend slices to the archive and hand back what it lays into them.
+//! What each answers is proved for the archive that `rt staticlib api` writes, for x86-64. What this crate adds is not proved: the lines of [`calls`], with the
+//! one `unsafe` of the crate, lend slices to the archive; the functions here hand back what it lays into them.
 //!
-//! Calls may be made from several threads. Of the stack [`judge`] and [`write()`] take about 62 KB each, [`solve`] 68 KB and [`listing`] 99 KB, so a thread that
-//! makes them needs about 104 KB; that is measured, not proved. A thread of the standard library has 2 MB unless it is told otherwise.
+//! Example A of the request: five objects in five blocks, objects 0 and 1 restrained to 7 counts together.
+//!
+//! ```
+//! use mass_bench::{analyse, Head};
+//! let head = Head { n: 5, flag: 0, p: 2, m: 1 };
+//! let job = analyse(head, &[1, 4, 2, 3], &[11, -3, 4, 1, -8], 0b11, 7)?;
+//! assert_eq!((job.values[1], job.solved.denominator), (73, 10));
+//! assert_eq!(job.solved.spreading.spread.unwrap().hundredths, 223);
+//! # Ok::<(), mass_bench::Refusal>(())
+//! ```
+//!
+//! Calls may be made from several threads. Of the stack [`listing`] takes the most, about 99 KB, so a thread that makes calls needs about 104 KB (hosts/bench.h
+//! has the figures of each); that is measured, not proved. A thread of the standard library has 2 MB unless it is told otherwise.
+
+pub mod calls;
 
 use std::fmt;
-
-mod ffi {
-    extern "C" {
-        pub fn bench_judge(n: usize, flag: usize, p: usize, m: usize, blocks: *const u8, blocks_length: usize, answer: *mut u64, answer_length: usize) -> u8;
-        pub fn bench_solve(
-            bytes: *const u8,
-            bytes_length: usize,
-            words: *mut u64,
-            words_length: usize,
-            values: *mut i64,
-            values_length: usize,
-            deviations: *mut i64,
-            deviations_length: usize,
-            answer: *mut u64,
-            answer_length: usize,
-            spread: *mut f64,
-            spread_length: usize,
-        ) -> u8;
-        pub fn bench_write(
-            n: usize,
-            flag: usize,
-            p: usize,
-            m: usize,
-            blocks: *const u8,
-            blocks_length: usize,
-            set: u64,
-            sum: i64,
-            readings: *const i32,
-            readings_length: usize,
-            out: *mut u8,
-            out_length: usize,
-            answer: *mut u64,
-            answer_length: usize,
-        ) -> u8;
-        pub fn bench_listing(bytes: *const u8, bytes_length: usize, out: *mut u8, out_length: usize, answer: *mut u64, answer_length: usize) -> u8;
-    }
-}
 
 // Room that is enough for every job, as in hosts/bench.h.
 /// The words of the most blocks, two of each.
@@ -55,29 +31,6 @@ pub const DEVIATIONS: usize = 1300;
 pub const FILE: usize = 6584;
 /// Bytes enough for the text of every job.
 pub const TEXT: usize = 65536;
-
-/// The slots of an answer, as in hosts/bench.h.
-mod slot {
-    pub const PLACE: usize = 0;
-    pub const V: usize = 1;
-    pub const B: usize = 2;
-    pub const R: usize = 3;
-    pub const P: usize = 4;
-    pub const L1: usize = 5;
-    pub const L2: usize = 6;
-    pub const JUDGE_SLOTS: usize = 7;
-    pub const DENOMINATOR: usize = 7;
-    pub const Q: usize = 8;
-    pub const VBETA: usize = 9;
-    pub const FREEDOM: usize = 10;
-    pub const HUNDREDTHS: usize = 11;
-    pub const HAS_SPREAD: usize = 12;
-    pub const SOLVE_SLOTS: usize = 13;
-    pub const WRITTEN: usize = 1;
-    pub const WRITE_SLOTS: usize = 2;
-    pub const LENGTH: usize = 0;
-    pub const LISTING_SLOTS: usize = 1;
-}
 
 // The one table of the reasons: what is named, and by which number of the request's table.
 macro_rules! reasons {
@@ -123,7 +76,7 @@ reasons! {
     NoRoom = 10,
 }
 
-/// A refusal: its reason, and its place in the file, or the index in the slice of a direct call.
+/// A refusal: its reason, and its place in the file, or, in a call that takes no file, the index in its slice or the number that was asked for, modulo 2^48.
 #[derive(Debug, Clone, Copy, PartialEq, Eq)]
 pub struct Refusal {
     pub reason: Reason,
@@ -138,14 +91,36 @@ impl fmt::Display for Refusal {
 
 impl std::error::Error for Refusal {}
 
-/// The sizes of a design: residues, whether the fixed object takes part, objects a side, initial blocks.
+/// The refusal in what one of the [`calls`] returned, if there is one.
+pub fn refusal_in(returned: u64) -> Result<(), Refusal> {
+    match returned {
+        0 => Ok(()),
+        _ => Err(Refusal { reason: Reason::of(returned as u8), place: returned >> 16 }),
+    }
+}
+
+/// The sizes of a design: residues, flag (1 where the fixed object takes part), objects a side, initial blocks.
 #[derive(Debug, Clone, Copy, PartialEq, Eq)]
 pub struct Head {
     pub n: usize,
-    pub fixed: bool,
+    pub flag: usize,
     pub p: usize,
     pub m: usize,
 }
+
+impl Head {
+    // The objects and the blocks of an accepted head.
+    fn objects(self) -> usize {
+        self.n + self.flag
+    }
+
+    fn blocks(self) -> usize {
+        self.m * self.n
+    }
+}
+
+/// A pair table: row i, column j.
+pub type Table = [[u64; 50]; 50];
 
 /// The parameters of a balanced design; `l1` and `l2` are the paper's two lambdas.
 #[derive(Debug, Clone, Copy, PartialEq, Eq)]
@@ -158,6 +133,22 @@ pub struct Parameters {
     pub l2: u64,
 }
 
+/// The value of one object: a fraction that is not reduced, its published hundredths of a count, and its f64.
+#[derive(Debug, Clone, Copy, PartialEq)]
+pub struct Value {
+    pub numerator: i64,
+    pub denominator: u64,
+    pub hundredths: i64,
+    pub value: f64,
+}
+
+/// The deviation of one block: a fraction that is not reduced.
+#[derive(Debug, Clone, Copy, PartialEq, Eq)]
+pub struct Deviation {
+    pub numerator: i64,
+    pub denominator: u64,
+}
+
 /// The spread, in whole hundredths of a count and as an f64.
 #[derive(Debug, Clone, Copy, PartialEq)]
 pub struct Spread {
@@ -165,18 +156,24 @@ pub struct Spread {
     pub value: f64,
 }
 
-/// What a job comes to, beside its values and deviations.
+/// The spread with what it is made from.
 #[derive(Debug, Clone, Copy, PartialEq)]
-pub struct Solved {
-    pub parameters: Parameters,
-    /// The denominator of every value.
-    pub denominator: u64,
+pub struct Spreading {
     pub q: u64,
     /// The denominator of every deviation.
     pub vbeta: u64,
     pub freedom: u64,
     /// None where there is no degree of freedom.
     pub spread: Option<Spread>,
+}
+
+/// What a job comes to, beside its words, values and deviations.
+#[derive(Debug, Clone, Copy, PartialEq)]
+pub struct Solved {
+    pub parameters: Parameters,
+    /// The denominator of every value.
+    pub denominator: u64,
+    pub spreading: Spreading,
 }
 
 /// A job worked out.
@@ -191,109 +188,359 @@ pub struct Job {
     pub deviations: Vec<i64>,
 }
 
-/// Judges a design. `blocks` has the initial blocks, each `p` left objects, then `p` right ones; 255 is the fixed object.
+/// A field of a file: where its body starts, and the byte after it.
+#[derive(Debug, Clone, Copy, PartialEq, Eq)]
+pub struct Field {
+    pub body: usize,
+    pub next: usize,
+}
+
+/// What a job file holds: its head, the bytes at which its initial blocks and its readings start, its restraint set with the accepted sum.
+#[derive(Debug, Clone, Copy, PartialEq, Eq)]
+pub struct JobRead {
+    pub head: Head,
+    pub blocks_at: usize,
+    pub readings_at: usize,
+    pub set: u64,
+    pub sum: i64,
+}
+
+// ---- designs
+
+/// Whether a block list can be developed. `blocks` has the initial blocks, each `p` left objects, then `p` right ones; 255 is the fixed object.
+///
+/// ```
+/// use mass_bench::{pairs_refusal, Head, Reason};
+/// let four = Head { n: 4, flag: 0, p: 1, m: 1 };
+/// assert!(pairs_refusal(four, &[0, 1]).is_ok());
+/// assert_eq!(pairs_refusal(four, &[0, 4]).unwrap_err().reason, Reason::BadObject);
+/// ```
+pub fn pairs_refusal(head: Head, blocks: &[u8]) -> Result<(), Refusal> {
+    let Head { n, flag, p, m } = head;
+    refusal_in(calls::pairs_refusal(n, flag, p, m, blocks))
+}
+
+/// The words of every block: left word, right word, next shift, one bit an object. The fixed object is bit `n`.
+///
+/// ```
+/// # use mass_bench::{develop, Head};
+/// let words = develop(Head { n: 5, flag: 0, p: 2, m: 1 }, &[1, 4, 2, 3])?;
+/// assert_eq!((words.len(), words[0], words[1]), (10, 0b10010, 0b01100));
+/// # Ok::<(), mass_bench::Refusal>(())
+/// ```
+pub fn develop(head: Head, blocks: &[u8]) -> Result<Vec<u64>, Refusal> {
+    let Head { n, flag, p, m } = head;
+    let mut words = vec![0; WORDS];
+    refusal_in(calls::develop(n, flag, p, m, blocks, &mut words))?;
+    words.truncate(2 * head.blocks());
+    Ok(words)
+}
+
+/// The words of the blocks that initial block `j` is developed into.
+///
+/// ```
+/// # use mass_bench::{develop_initial, Head, Reason};
+/// let head = Head { n: 4, flag: 0, p: 1, m: 2 };
+/// assert_eq!(develop_initial(head, &[0, 1, 0, 2], 1)?[..2], [0b0001, 0b0100]);
+/// assert_eq!(develop_initial(head, &[0, 1, 0, 2], 2).unwrap_err().place, 2);
+/// # Ok::<(), mass_bench::Refusal>(())
+/// ```
+pub fn develop_initial(head: Head, blocks: &[u8], j: usize) -> Result<Vec<u64>, Refusal> {
+    let Head { n, flag, p, m } = head;
+    let mut words = vec![0; WORDS];
+    refusal_in(calls::develop_initial(n, flag, p, m, blocks, j, &mut words))?;
+    Ok(words[2 * n * j..2 * n * (j + 1)].to_vec())
+}
+
+/// In how many blocks two objects share a side; on the diagonal, in how many an object stands. Balance is not asked.
+///
+/// ```
+/// # use mass_bench::{company, Head};
+/// let table = company(Head { n: 5, flag: 0, p: 2, m: 1 }, &[1, 4, 2, 3])?;
+/// assert_eq!((table[0][0], table[0][1]), (4, 1));
+/// # Ok::<(), mass_bench::Refusal>(())
+/// ```
+pub fn company(head: Head, blocks: &[u8]) -> Result<Table, Refusal> {
+    table(head, blocks, calls::company)
+}
+
+/// In how many blocks two objects stand on opposite sides. Balance is not asked.
+///
+/// ```
+/// # use mass_bench::{opposition, Head};
+/// let table = opposition(Head { n: 5, flag: 0, p: 2, m: 1 }, &[1, 4, 2, 3])?;
+/// assert_eq!((table[0][0], table[0][1]), (0, 2));
+/// # Ok::<(), mass_bench::Refusal>(())
+/// ```
+pub fn opposition(head: Head, blocks: &[u8]) -> Result<Table, Refusal> {
+    table(head, blocks, calls::opposition)
+}
+
+fn table(head: Head, blocks: &[u8], call: fn(usize, usize, usize, usize, &[u8], &mut [u64]) -> u64) -> Result<Table, Refusal> {
+    let Head { n, flag, p, m } = head;
+    let mut table = [[0; 50]; 50];
+    refusal_in(call(n, flag, p, m, blocks, table.as_flattened_mut()))?;
+    Ok(table)
+}
+
+/// Judges whether a design is balanced.
+///
+/// ```
+/// # use mass_bench::{judge, Head, Reason};
+/// let a = judge(Head { n: 5, flag: 0, p: 2, m: 1 }, &[1, 4, 2, 3])?;
+/// assert_eq!((a.v, a.b, a.r, a.p, a.l1, a.l2), (5, 5, 4, 2, 1, 2));
+/// let c = judge(Head { n: 4, flag: 0, p: 1, m: 1 }, &[0, 1]);
+/// assert_eq!(c.unwrap_err().reason, Reason::Unbalanced);
+/// # Ok::<(), mass_bench::Refusal>(())
+/// ```
 pub fn judge(head: Head, blocks: &[u8]) -> Result<Parameters, Refusal> {
-    let mut answer = [0; slot::JUDGE_SLOTS];
-    // Sound: each slice is lent as its pointer and length, and the only one that is written is ours alone.
-    let number = unsafe { ffi::bench_judge(head.n, head.fixed as usize, head.p, head.m, blocks.as_ptr(), blocks.len(), answer.as_mut_ptr(), answer.len()) };
-    accepted(number, &answer)?;
-    Ok(parameters(&answer))
+    let Head { n, flag, p, m } = head;
+    let mut answer = [0; 6];
+    refusal_in(calls::judge(n, flag, p, m, blocks, &mut answer))?;
+    Ok(parameters(answer))
+}
+
+// ---- jobs: a design with its readings in development order, a restraint set (bit i is object i) and its accepted sum
+
+/// The total of one object: the readings with it on the left less those with it on the right. Balance is not asked.
+///
+/// ```
+/// # use mass_bench::{total, Head};
+/// assert_eq!(total(Head { n: 5, flag: 0, p: 2, m: 1 }, &[1, 4, 2, 3], &[11, -3, 4, 1, -8], 0), Ok(-16));
+/// ```
+pub fn total(head: Head, blocks: &[u8], readings: &[i32], object: usize) -> Result<i64, Refusal> {
+    let Head { n, flag, p, m } = head;
+    let mut total = [0];
+    refusal_in(calls::total(n, flag, p, m, blocks, readings, object, &mut total))?;
+    Ok(total[0])
+}
+
+/// The sum of the squared readings.
+///
+/// ```
+/// # use mass_bench::{sum_of_squares, Head};
+/// assert_eq!(sum_of_squares(Head { n: 5, flag: 0, p: 2, m: 1 }, &[11, -3, 4, 1, -8]), Ok(211));
+/// ```
+pub fn sum_of_squares(head: Head, readings: &[i32]) -> Result<u64, Refusal> {
+    let Head { n, flag, p, m } = head;
+    let mut answer = [0];
+    refusal_in(calls::sum_of_squares(n, flag, p, m, readings, &mut answer))?;
+    Ok(answer[0])
+}
+
+/// The sum of the squared totals. Balance is not asked.
+///
+/// ```
+/// # use mass_bench::{sum_of_squared_totals, Head};
+/// assert_eq!(sum_of_squared_totals(Head { n: 5, flag: 0, p: 2, m: 1 }, &[1, 4, 2, 3], &[11, -3, 4, 1, -8]), Ok(1030));
+/// ```
+pub fn sum_of_squared_totals(head: Head, blocks: &[u8], readings: &[i32]) -> Result<u64, Refusal> {
+    let Head { n, flag, p, m } = head;
+    let mut answer = [0];
+    refusal_in(calls::sum_of_squared_totals(n, flag, p, m, blocks, readings, &mut answer))?;
+    Ok(answer[0])
+}
+
+/// Whether a whole job is accepted.
+///
+/// ```
+/// # use mass_bench::{refusal, Head, Reason};
+/// let a = Head { n: 5, flag: 0, p: 2, m: 1 };
+/// assert!(refusal(a, &[1, 4, 2, 3], &[11, -3, 4, 1, -8], 0b11, 7).is_ok());
+/// assert_eq!(refusal(a, &[1, 4, 2, 3], &[11, -3, 4, 1, -8], 0, 7).unwrap_err().reason, Reason::BadRestraint);
+/// ```
+pub fn refusal(head: Head, blocks: &[u8], readings: &[i32], set: u64, sum: i64) -> Result<(), Refusal> {
+    let Head { n, flag, p, m } = head;
+    refusal_in(calls::refusal(n, flag, p, m, blocks, readings, set, sum))
+}
+
+/// The numerators of the values of all objects.
+///
+/// ```
+/// # use mass_bench::{values, Head};
+/// let values = values(Head { n: 5, flag: 0, p: 2, m: 1 }, &[1, 4, 2, 3], &[11, -3, 4, 1, -8], 0b11, 7)?;
+/// assert_eq!(values, [-3, 73, 19, 5, 51]);
+/// # Ok::<(), mass_bench::Refusal>(())
+/// ```
+pub fn values(head: Head, blocks: &[u8], readings: &[i32], set: u64, sum: i64) -> Result<Vec<i64>, Refusal> {
+    let Head { n, flag, p, m } = head;
+    let mut values = vec![0; VALUES];
+    refusal_in(calls::values(n, flag, p, m, blocks, readings, set, sum, &mut values))?;
+    values.truncate(head.objects());
+    Ok(values)
+}
+
+/// The value of one object.
+///
+/// ```
+/// # use mass_bench::{value_of, Head};
+/// let value = value_of(Head { n: 5, flag: 0, p: 2, m: 1 }, &[1, 4, 2, 3], &[11, -3, 4, 1, -8], 0b11, 7, 1)?;
+/// assert_eq!((value.numerator, value.denominator, value.hundredths, value.value), (73, 10, 730, 7.3));
+/// # Ok::<(), mass_bench::Refusal>(())
+/// ```
+pub fn value_of(head: Head, blocks: &[u8], readings: &[i32], set: u64, sum: i64, object: usize) -> Result<Value, Refusal> {
+    let Head { n, flag, p, m } = head;
+    let (mut signed, mut answer, mut real) = ([0; 2], [0], [0.0]);
+    refusal_in(calls::value_of(n, flag, p, m, blocks, readings, set, sum, object, &mut signed, &mut answer, &mut real))?;
+    Ok(Value { numerator: signed[0], denominator: answer[0], hundredths: signed[1], value: real[0] })
+}
+
+/// The numerators of the deviations of all blocks.
+///
+/// ```
+/// # use mass_bench::{deviations, Head};
+/// let deviations = deviations(Head { n: 5, flag: 0, p: 2, m: 1 }, &[1, 4, 2, 3], &[11, -3, 4, 1, -8])?;
+/// assert_eq!(deviations, [5, 5, 5, 5, 5]);
+/// # Ok::<(), mass_bench::Refusal>(())
+/// ```
+pub fn deviations(head: Head, blocks: &[u8], readings: &[i32]) -> Result<Vec<i64>, Refusal> {
+    let Head { n, flag, p, m } = head;
+    let mut deviations = vec![0; DEVIATIONS];
+    refusal_in(calls::deviations(n, flag, p, m, blocks, readings, &mut deviations))?;
+    deviations.truncate(head.blocks());
+    Ok(deviations)
+}
+
+/// The deviation of one block.
+///
+/// ```
+/// # use mass_bench::{deviation_of, Deviation, Head};
+/// let deviation = deviation_of(Head { n: 5, flag: 0, p: 2, m: 1 }, &[1, 4, 2, 3], &[11, -3, 4, 1, -8], 4);
+/// assert_eq!(deviation, Ok(Deviation { numerator: 5, denominator: 5 }));
+/// ```
+pub fn deviation_of(head: Head, blocks: &[u8], readings: &[i32], block: usize) -> Result<Deviation, Refusal> {
+    let Head { n, flag, p, m } = head;
+    let (mut signed, mut answer) = ([0], [0]);
+    refusal_in(calls::deviation_of(n, flag, p, m, blocks, readings, block, &mut signed, &mut answer))?;
+    Ok(Deviation { numerator: signed[0], denominator: answer[0] })
+}
+
+/// Q: v·beta times the sum of squared deviations.
+///
+/// ```
+/// # use mass_bench::{q, Head};
+/// assert_eq!(q(Head { n: 5, flag: 0, p: 2, m: 1 }, &[1, 4, 2, 3], &[11, -3, 4, 1, -8]), Ok(25));
+/// ```
+pub fn q(head: Head, blocks: &[u8], readings: &[i32]) -> Result<u64, Refusal> {
+    let Head { n, flag, p, m } = head;
+    let mut answer = [0];
+    refusal_in(calls::q(n, flag, p, m, blocks, readings, &mut answer))?;
+    Ok(answer[0])
+}
+
+/// The spread, with what it is made from.
+///
+/// ```
+/// # use mass_bench::{spread, Head, Spread};
+/// let spreading = spread(Head { n: 5, flag: 0, p: 2, m: 1 }, &[1, 4, 2, 3], &[11, -3, 4, 1, -8])?;
+/// assert_eq!((spreading.q, spreading.vbeta, spreading.freedom), (25, 5, 1));
+/// assert_eq!(spreading.spread, Some(Spread { hundredths: 223, value: 2.23 }));
+/// # Ok::<(), mass_bench::Refusal>(())
+/// ```
+pub fn spread(head: Head, blocks: &[u8], readings: &[i32]) -> Result<Spreading, Refusal> {
+    let Head { n, flag, p, m } = head;
+    let (mut answer, mut real) = ([0; 5], [0.0]);
+    refusal_in(calls::spread(n, flag, p, m, blocks, readings, &mut answer, &mut real))?;
+    Ok(spreading(answer, real))
+}
+
+/// Everything at once: words, values, deviations and spread, the design judged once. For an example see the crate's first page.
+pub fn analyse(head: Head, blocks: &[u8], readings: &[i32], set: u64, sum: i64) -> Result<Job, Refusal> {
+    let Head { n, flag, p, m } = head;
+    worked_out(|words, values, deviations, answer, real| calls::analyse(n, flag, p, m, blocks, readings, set, sum, words, values, deviations, answer, real))
+}
+
+// ---- files
+
+/// The field at a place of some bytes, by its tag and the length that its body must have.
+///
+/// ```
+/// # use mass_bench::{field_at, Field, Reason};
+/// let file = [1, 0, 4, 5, 0, 2, 1];
+/// assert_eq!(field_at(&file, 0, 1, 4), Ok(Field { body: 3, next: 7 }));
+/// assert_eq!(field_at(&file, 7, 2, 4).unwrap_err().reason, Reason::PastTheEnd);
+/// ```
+pub fn field_at(bytes: &[u8], place: usize, tag: u8, length: usize) -> Result<Field, Refusal> {
+    let mut answer = [0; 2];
+    refusal_in(calls::field_at(bytes, place, tag, length, &mut answer))?;
+    Ok(Field { body: answer[0] as usize, next: answer[1] as usize })
+}
+
+/// Reads a job file.
+///
+/// ```
+/// # use mass_bench::{read, write, Head};
+/// let head = Head { n: 5, flag: 0, p: 2, m: 1 };
+/// let job = read(&write(head, &[1, 4, 2, 3], 0b11, 7, &[11, -3, 4, 1, -8])?)?;
+/// assert_eq!((job.head, job.blocks_at, job.readings_at, job.set, job.sum), (head, 10, 36, 3, 7));
+/// # Ok::<(), mass_bench::Refusal>(())
+/// ```
+pub fn read(bytes: &[u8]) -> Result<JobRead, Refusal> {
+    let (mut signed, mut answer) = ([0], [0; 7]);
+    refusal_in(calls::read(bytes, &mut signed, &mut answer))?;
+    let [n, flag, p, m, blocks_at, readings_at] = [0, 1, 2, 3, 4, 5].map(|slot| answer[slot] as usize);
+    Ok(JobRead { head: Head { n, flag, p, m }, blocks_at, readings_at, set: answer[6], sum: signed[0] })
 }
 
 /// Works a job file out.
+///
+/// ```
+/// # use mass_bench::{solve, write, Head};
+/// let job = solve(&write(Head { n: 5, flag: 0, p: 2, m: 1 }, &[1, 4, 2, 3], 0b11, 7, &[11, -3, 4, 1, -8])?)?;
+/// assert_eq!((job.values, job.solved.denominator), (vec![-3, 73, 19, 5, 51], 10));
+/// # Ok::<(), mass_bench::Refusal>(())
+/// ```
 pub fn solve(bytes: &[u8]) -> Result<Job, Refusal> {
-    let (mut words, mut values, mut deviations) = (vec![0; WORDS], vec![0; VALUES], vec![0; DEVIATIONS]);
-    let solved = solve_into(bytes, &mut words, &mut values, &mut deviations)?;
-    words.truncate(2 * solved.parameters.b as usize);
-    values.truncate(solved.parameters.v as usize);
-    deviations.truncate(solved.parameters.b as usize);
-    Ok(Job { solved, words, values, deviations })
+    worked_out(|words, values, deviations, answer, real| calls::solve(bytes, words, values, deviations, answer, real))
 }
 
-/// Works a job file out into lent rooms, of at least 2b, v and b entries. A refusal leaves them as they were; later entries stay.
-pub fn solve_into(bytes: &[u8], words: &mut [u64], values: &mut [i64], deviations: &mut [i64]) -> Result<Solved, Refusal> {
-    let (mut answer, mut spread) = ([0; slot::SOLVE_SLOTS], [0.0]);
-    // Sound: as in `judge`; no two of the slices that are written overlap.
-    let number = unsafe {
-        ffi::bench_solve(
-            bytes.as_ptr(),
-            bytes.len(),
-            words.as_mut_ptr(),
-            words.len(),
-            values.as_mut_ptr(),
-            values.len(),
-            deviations.as_mut_ptr(),
-            deviations.len(),
-            answer.as_mut_ptr(),
-            answer.len(),
-            spread.as_mut_ptr(),
-            spread.len(),
-        )
-    };
-    accepted(number, &answer)?;
-    Ok(Solved {
-        parameters: parameters(&answer),
-        denominator: answer[slot::DENOMINATOR],
-        q: answer[slot::Q],
-        vbeta: answer[slot::VBETA],
-        freedom: answer[slot::FREEDOM],
-        spread: (answer[slot::HAS_SPREAD] == 1).then_some(Spread { hundredths: answer[slot::HUNDREDTHS], value: spread[0] }),
-    })
-}
-
-/// Writes the file of a job: its design as [`judge`] takes it, the restraint set (bit i is object i) with its accepted sum, and the readings in development order.
-/// A job has one file: what is read from it is the job again, and no other bytes read as the same job.
+/// Writes the file of a job. A job has one file: what is read from it is the job again, and no other bytes read as the same job.
+///
+/// ```
+/// # use mass_bench::{write, Head};
+/// let file = write(Head { n: 5, flag: 0, p: 2, m: 1 }, &[1, 4, 2, 3], 0b11, 7, &[11, -3, 4, 1, -8])?;
+/// assert_eq!((file.len(), &file[..7]), (56, &[1, 0, 4, 5, 0, 2, 1][..]));
+/// # Ok::<(), mass_bench::Refusal>(())
+/// ```
 pub fn write(head: Head, blocks: &[u8], set: u64, sum: i64, readings: &[i32]) -> Result<Vec<u8>, Refusal> {
-    let mut file = vec![0; FILE];
-    let length = write_into(head, blocks, set, sum, readings, &mut file)?;
-    file.truncate(length);
+    let Head { n, flag, p, m } = head;
+    let (mut file, mut answer) = (vec![0; FILE], [0]);
+    refusal_in(calls::write(n, flag, p, m, blocks, set, sum, readings, &mut file, &mut answer))?;
+    file.truncate(answer[0] as usize);
     Ok(file)
 }
 
-/// Writes the file of a job to the front of lent room, of at least 32 + 2pm + 4b bytes, and tells how many it wrote. A refusal leaves the room as it was; later bytes stay.
-pub fn write_into(head: Head, blocks: &[u8], set: u64, sum: i64, readings: &[i32], out: &mut [u8]) -> Result<usize, Refusal> {
-    let mut answer = [0; slot::WRITE_SLOTS];
-    // Sound: as in `judge`; the two slices that are written do not overlap.
-    let number = unsafe {
-        ffi::bench_write(
-            head.n,
-            head.fixed as usize,
-            head.p,
-            head.m,
-            blocks.as_ptr(),
-            blocks.len(),
-            set,
-            sum,
-            readings.as_ptr(),
-            readings.len(),
-            out.as_mut_ptr(),
-            out.len(),
-            answer.as_mut_ptr(),
-            answer.len(),
-        )
-    };
-    accepted(number, &answer)?;
-    Ok(answer[slot::WRITTEN] as usize)
+/// The text that the bench prints for a job file: its listing, or the line of its refusal. With [`TEXT`] bytes of room it is never refused.
+///
+/// ```
+/// assert_eq!(mass_bench::listing(&[]), Ok("refused 1 0\n".to_string()));
+/// ```
+pub fn listing(bytes: &[u8]) -> Result<String, Refusal> {
+    let (mut out, mut answer) = (vec![0; TEXT], [0]);
+    refusal_in(calls::listing(bytes, &mut out, &mut answer))?;
+    out.truncate(answer[0] as usize);
+    Ok(String::from_utf8(out).expect("a listing is ASCII"))
 }
 
-/// The text that the bench prints for a job file: its listing, or the line of its refusal.
-pub fn listing(bytes: &[u8]) -> String {
-    let (mut out, mut answer) = (vec![0; TEXT], [0; slot::LISTING_SLOTS]);
-    // Sound: as in `judge`.
-    let number = unsafe { ffi::bench_listing(bytes.as_ptr(), bytes.len(), out.as_mut_ptr(), out.len(), answer.as_mut_ptr(), answer.len()) };
-    assert_eq!(number, 0, "it is proved that the room suffices");
-    out.truncate(answer[slot::LENGTH] as usize);
-    String::from_utf8(out).expect("a listing is ASCII")
+// ---- slots
+
+fn parameters([v, b, r, p, l1, l2]: [u64; 6]) -> Parameters {
+    Parameters { v, b, r, p, l1, l2 }
 }
 
-fn accepted(number: u8, answer: &[u64]) -> Result<(), Refusal> {
-    match number {
-        0 => Ok(()),
-        _ => Err(Refusal { reason: Reason::of(number), place: answer[slot::PLACE] }),
-    }
+fn spreading([q, vbeta, freedom, hundredths, has_spread]: [u64; 5], [value]: [f64; 1]) -> Spreading {
+    Spreading { q, vbeta, freedom, spread: (has_spread == 1).then_some(Spread { hundredths, value }) }
 }
 
-fn parameters(answer: &[u64]) -> Parameters {
-    use slot::*;
-    Parameters { v: answer[V], b: answer[B], r: answer[R], p: answer[P], l1: answer[L1], l2: answer[L2] }
+// A job worked out by a call that lays it into rooms and slots.
+fn worked_out(call: impl FnOnce(&mut [u64], &mut [i64], &mut [i64], &mut [u64], &mut [f64]) -> u64) -> Result<Job, Refusal> {
+    let (mut words, mut values, mut deviations) = (vec![0; WORDS], vec![0; VALUES], vec![0; DEVIATIONS]);
+    let (mut answer, mut real) = ([0; 12], [0.0]);
+    refusal_in(call(&mut words, &mut values, &mut deviations, &mut answer, &mut real))?;
+    let [v, b, r, p, l1, l2, denominator, q, vbeta, freedom, hundredths, has_spread] = answer;
+    words.truncate(2 * b as usize);
+    values.truncate(v as usize);
+    deviations.truncate(b as usize);
+    let solved = Solved { parameters: parameters([v, b, r, p, l1, l2]), denominator, spreading: spreading([q, vbeta, freedom, hundredths, has_spread], real) };
+    Ok(Job { solved, words, values, deviations })
 }

@@ -1,5 +1,5 @@
-//! The calls on the examples of the repository.
-use mass_bench::{judge, listing, solve, solve_into, write, write_into, Head, Parameters, Reason, Refusal, Spread};
+//! Each call on example A and on an input that is refused; then the same through `calls`, with rooms and slots that are exact, longer and too short.
+use mass_bench::*;
 
 const HERE: &str = match option_env!("CARGO_MANIFEST_DIR") {
     Some(folder) => folder,
@@ -10,79 +10,161 @@ fn example(name: &str) -> Vec<u8> {
     std::fs::read(format!("{}/../../examples/{name}", HERE)).unwrap()
 }
 
+const A: Head = Head { n: 5, flag: 0, p: 2, m: 1 };
+const BLOCKS: [u8; 4] = [1, 4, 2, 3];
+const READINGS: [i32; 5] = [11, -3, 4, 1, -8];
+const SET: u64 = 0b11;
+const SUM: i64 = 7;
+
+/// Example C, which is not balanced.
+const C: Head = Head { n: 4, flag: 0, p: 1, m: 1 };
+
+fn refused<T>(reason: Reason, place: u64) -> Result<T, Refusal> {
+    Err(Refusal { reason, place })
+}
+
+// ---- designs
+
 #[test]
-fn example_a_is_judged() {
-    let a = judge(Head { n: 5, fixed: false, p: 2, m: 1 }, &[1, 4, 2, 3]);
-    assert_eq!(a, Ok(Parameters { v: 5, b: 5, r: 4, p: 2, l1: 1, l2: 2 }));
+fn block_lists_are_refused_or_not() {
+    assert_eq!(pairs_refusal(A, &BLOCKS), Ok(()));
+    assert_eq!(pairs_refusal(C, &[0, 1]), Ok(()));
+    assert_eq!(pairs_refusal(A, &[1, 4, 2, 4]), refused(Reason::BadObject, 3));
+    assert_eq!(pairs_refusal(A, &[1, 4, 2]), refused(Reason::WrongLength, 0));
+    assert_eq!(pairs_refusal(Head { flag: 2, ..A }, &[]), refused(Reason::BrokenSize, 0));
 }
 
 #[test]
-fn the_fixed_object_is_judged() {
-    let e = judge(Head { n: 7, fixed: true, p: 4, m: 1 }, &[255, 1, 2, 4, 0, 3, 5, 6]);
+fn designs_are_developed() {
+    assert_eq!(develop(A, &BLOCKS).unwrap(), [0b10010, 0b01100, 0b00101, 0b11000, 0b01010, 0b10001, 0b10100, 0b00011, 0b01001, 0b00110]);
+    assert_eq!(develop(A, &[1, 4, 2, 5]), refused(Reason::BadObject, 3));
+    let d = Head { n: 4, flag: 0, p: 1, m: 3 };
+    let blocks = [0, 1, 0, 1, 0, 2];
+    let words = develop(d, &blocks).unwrap();
+    for j in 0..3 {
+        assert_eq!(develop_initial(d, &blocks, j).unwrap(), words[8 * j..8 * j + 8]);
+    }
+    assert_eq!(develop_initial(d, &blocks, 3), refused(Reason::BadObject, 3));
+}
+
+#[test]
+fn pairs_are_counted() {
+    let (company, opposition) = (company(A, &BLOCKS).unwrap(), opposition(A, &BLOCKS).unwrap());
+    for i in 0..50 {
+        for j in 0..50 {
+            let (shared, opposed) = if i.max(j) >= 5 { (0, 0) } else if i == j { (4, 0) } else { (1, 2) };
+            assert_eq!((company[i][j], opposition[i][j]), (shared, opposed), "{i} {j}");
+        }
+    }
+    assert_eq!(mass_bench::company(C, &[0]), refused(Reason::WrongLength, 0));
+    assert_eq!(mass_bench::opposition(C, &[0, 0]), refused(Reason::BadObject, 1));
+}
+
+#[test]
+fn designs_are_judged() {
+    assert_eq!(judge(A, &BLOCKS), Ok(Parameters { v: 5, b: 5, r: 4, p: 2, l1: 1, l2: 2 }));
+    let e = judge(Head { n: 7, flag: 1, p: 4, m: 1 }, &[255, 1, 2, 4, 0, 3, 5, 6]);
     assert_eq!(e, Ok(Parameters { v: 8, b: 7, r: 7, p: 4, l1: 3, l2: 4 }));
+    assert_eq!(judge(C, &[0, 1]), refused(Reason::Unbalanced, 0));
+    assert_eq!(judge(C, &[0, 4]), refused(Reason::BadObject, 1));
+    assert_eq!(judge(Head { n: 51, ..C }, &[]), refused(Reason::BrokenSize, 0));
+}
+
+// ---- jobs
+
+#[test]
+fn totals_and_squares_are_summed() {
+    let totals: Vec<i64> = (0..5).map(|i| total(A, &BLOCKS, &READINGS, i).unwrap()).collect();
+    assert_eq!(totals, [-16, 22, -5, -12, 11]);
+    assert_eq!(total(A, &BLOCKS, &READINGS, 5), refused(Reason::BadObject, 5));
+    assert_eq!(sum_of_squares(A, &READINGS), Ok(211));
+    assert_eq!(sum_of_squares(A, &[0, 0, 200_001, 0, 0]), refused(Reason::BadReading, 2));
+    assert_eq!(sum_of_squared_totals(A, &BLOCKS, &READINGS), Ok(1030));
+    assert_eq!(sum_of_squared_totals(A, &BLOCKS, &[]), refused(Reason::WrongLength, 0));
+    assert!(sum_of_squared_totals(C, &[0, 1], &[0; 4]).is_ok());
 }
 
 #[test]
-fn designs_are_refused() {
-    let four = Head { n: 4, fixed: false, p: 1, m: 1 };
-    assert_eq!(judge(four, &[0, 1]), Err(Refusal { reason: Reason::Unbalanced, place: 0 }));
-    assert_eq!(judge(four, &[0, 4]), Err(Refusal { reason: Reason::BadObject, place: 1 }));
-    assert_eq!(judge(four, &[0]), Err(Refusal { reason: Reason::WrongLength, place: 0 }));
-    assert_eq!(judge(Head { n: 51, ..four }, &[]), Err(Refusal { reason: Reason::BrokenSize, place: 0 }));
+fn jobs_are_refused_or_not() {
+    assert_eq!(refusal(A, &BLOCKS, &READINGS, SET, SUM), Ok(()));
+    assert_eq!(refusal(A, &BLOCKS, &READINGS, 32, SUM), refused(Reason::BadRestraint, 0));
+    assert_eq!(refusal(A, &BLOCKS, &READINGS, SET, 1_000_000_001), refused(Reason::BadRestraint, 0));
+    assert_eq!(refusal(C, &[0, 1], &[0; 4], 0, SUM), refused(Reason::Unbalanced, 0));
 }
 
 #[test]
-fn example_a_is_solved() {
-    let a = solve(&example("A.job")).unwrap();
-    assert_eq!((a.values, a.solved.denominator), (vec![-3, 73, 19, 5, 51], 10));
-    assert_eq!((a.deviations, a.solved.vbeta), (vec![5; 5], 5));
-    assert_eq!((a.words.len(), a.words[0], a.words[1]), (10, 0b10010, 0b01100));
-    assert_eq!((a.solved.q, a.solved.freedom), (25, 1));
-    assert_eq!(a.solved.spread, Some(Spread { hundredths: 223, value: 2.23 }));
+fn values_are_worked_out() {
+    assert_eq!(values(A, &BLOCKS, &READINGS, SET, SUM).unwrap(), [-3, 73, 19, 5, 51]);
+    assert_eq!(values(A, &BLOCKS, &READINGS, 0, SUM), refused(Reason::BadRestraint, 0));
+    assert_eq!(value_of(A, &BLOCKS, &READINGS, SET, SUM, 0), Ok(Value { numerator: -3, denominator: 10, hundredths: -30, value: -0.3 }));
+    assert_eq!(value_of(A, &BLOCKS, &READINGS, SET, SUM, 5), refused(Reason::BadObject, 5));
+    // a place of the caller's own is told modulo 2^48
+    assert_eq!(value_of(A, &BLOCKS, &READINGS, SET, SUM, usize::MAX), refused(Reason::BadObject, (1 << 48) - 1));
 }
 
 #[test]
-fn no_freedom_gives_no_spread() {
-    let e = solve(&example("E.job")).unwrap().solved;
+fn deviations_and_spread_are_worked_out() {
+    assert_eq!(deviations(A, &BLOCKS, &READINGS).unwrap(), [5; 5]);
+    assert_eq!(deviations(C, &[0, 1], &[0; 4]), refused(Reason::Unbalanced, 0));
+    assert_eq!(deviation_of(A, &BLOCKS, &READINGS, 4), Ok(Deviation { numerator: 5, denominator: 5 }));
+    assert_eq!(deviation_of(A, &BLOCKS, &READINGS, 5), refused(Reason::BadObject, 5));
+    assert_eq!(q(A, &BLOCKS, &READINGS), Ok(25));
+    assert_eq!(q(A, &BLOCKS, &[0, -200_001, 0, 0, 0]), refused(Reason::BadReading, 1));
+    let a = Spreading { q: 25, vbeta: 5, freedom: 1, spread: Some(Spread { hundredths: 223, value: 2.23 }) };
+    assert_eq!(spread(A, &BLOCKS, &READINGS), Ok(a));
+    assert_eq!(spread(C, &[0, 1], &[0; 4]), refused(Reason::Unbalanced, 0));
+    let e = spread(Head { n: 7, flag: 1, p: 4, m: 1 }, &[255, 1, 2, 4, 0, 3, 5, 6], &[0; 7]).unwrap();
     assert_eq!((e.freedom, e.spread), (0, None));
 }
 
 #[test]
-fn lent_rooms_are_written_as_far_as_is_said() {
+fn jobs_are_analysed() {
+    let a = analyse(A, &BLOCKS, &READINGS, SET, SUM).unwrap();
+    assert_eq!(a, solve(&example("A.job")).unwrap());
+    assert_eq!((a.values, a.solved.denominator), (vec![-3, 73, 19, 5, 51], 10));
+    assert_eq!((a.deviations, a.solved.spreading.vbeta), (vec![5; 5], 5));
+    assert_eq!((a.words.len(), a.words[0], a.words[1]), (10, 0b10010, 0b01100));
+    assert_eq!(a.solved.parameters, judge(A, &BLOCKS).unwrap());
+    assert_eq!(analyse(A, &BLOCKS, &[0, 0, 0, 0, 200_001], SET, SUM), refused(Reason::BadReading, 4));
+}
+
+// ---- files
+
+#[test]
+fn fields_are_found() {
     let a = example("A.job");
-    let (mut words, mut values, mut deviations) = ([9; 11], [9; 6], [9; 6]);
-    assert_eq!(solve_into(&a, &mut words[..9], &mut values, &mut deviations), Err(Refusal { reason: Reason::NoRoom, place: 0 }));
-    assert_eq!((words, values, deviations), ([9; 11], [9; 6], [9; 6]));
-    assert!(solve_into(&a, &mut words, &mut values, &mut deviations).is_ok());
-    assert_eq!((words[10], values, deviations), (9, [-3, 73, 19, 5, 51, 9], [5, 5, 5, 5, 5, 9]));
+    assert_eq!(field_at(&a, 0, 1, 4), Ok(Field { body: 3, next: 7 }));
+    assert_eq!(field_at(&a, 7, 2, 4), Ok(Field { body: 10, next: 14 }));
+    assert_eq!(field_at(&a, 7, 3, 4), refused(Reason::WrongTag, 7));
+    assert_eq!(field_at(&a, 7, 2, 5), refused(Reason::WrongLength, 7));
+    assert_eq!(field_at(&a[..13], 7, 2, 4), refused(Reason::PastTheEnd, 7));
+    assert_eq!(field_at(&a, usize::MAX, 1, 4), refused(Reason::PastTheEnd, (1 << 48) - 1));
 }
 
 #[test]
-fn a_job_is_refused_at_its_place() {
+fn files_are_read_and_solved() {
+    let a = JobRead { head: A, blocks_at: 10, readings_at: 36, set: SET, sum: SUM };
+    assert_eq!(read(&example("A.job")), Ok(a));
+    assert_eq!(read(&[]), refused(Reason::PastTheEnd, 0));
     let refusal = solve(&example("K-byte-added.job")).unwrap_err();
     assert_eq!(refusal, Refusal { reason: Reason::BytesFollow, place: 56 });
     assert_eq!(refusal.to_string(), "refused 9 56");
-}
-
-const A: Head = Head { n: 5, fixed: false, p: 2, m: 1 };
-const BLOCKS_OF_A: [u8; 4] = [1, 4, 2, 3];
-const READINGS_OF_A: [i32; 5] = [11, -3, 4, 1, -8];
-
-#[test]
-fn example_a_is_written() {
-    assert_eq!(write(A, &BLOCKS_OF_A, 3, 7, &READINGS_OF_A), Ok(example("A.job")));
+    let e = solve(&example("E.job")).unwrap().solved.spreading;
+    assert_eq!((e.freedom, e.spread), (0, None));
 }
 
 #[test]
-fn what_is_written_reads_as_the_job() {
+fn files_are_written() {
+    assert_eq!(write(A, &BLOCKS, SET, SUM, &READINGS), Ok(example("A.job")));
     let readings = [200_000, -200_000, 0, 1, -1];
-    let file = write(A, &BLOCKS_OF_A, 0b10001, -1_000_000_000, &readings).unwrap();
+    let file = write(A, &BLOCKS, 0b10001, -1_000_000_000, &readings).unwrap();
     let mut expected = vec![1, 0, 4, 5, 0, 2, 1, 2, 0, 4, 1, 4, 2, 3, 3, 0, 16];
     expected.extend(0b10001u64.to_be_bytes());
     expected.extend((-1_000_000_000i64).to_be_bytes());
     expected.extend([4, 0, 20]);
     expected.extend(readings.iter().flat_map(|reading: &i32| reading.to_be_bytes()));
     assert_eq!(file, expected);
+    assert_eq!(read(&file), Ok(JobRead { head: A, blocks_at: 10, readings_at: 36, set: 0b10001, sum: -1_000_000_000 }));
     // the restrained objects 0 and 4 add to M
     let job = solve(&file).unwrap();
     assert_eq!(job.solved.denominator, 10);
@@ -90,23 +172,14 @@ fn what_is_written_reads_as_the_job() {
 }
 
 #[test]
-fn a_file_is_written_into_room_for_it() {
-    let mut room = [9; 60];
-    let none = Err(Refusal { reason: Reason::NoRoom, place: 0 });
-    assert_eq!((write_into(A, &BLOCKS_OF_A, 3, 7, &READINGS_OF_A, &mut room[..55]), room), (none, [9; 60]));
-    assert_eq!(write_into(A, &BLOCKS_OF_A, 3, 7, &READINGS_OF_A, &mut room), Ok(56));
-    assert_eq!((&room[..56], &room[56..]), (&example("A.job")[..], &[9; 4][..]));
-}
-
-#[test]
 fn jobs_that_are_read_as_bad_are_not_written() {
-    let refused = |reason, place| Err(Refusal { reason, place });
-    assert_eq!(write(Head { p: 3, ..A }, &BLOCKS_OF_A, 0, 7, &[]), refused(Reason::BrokenSize, 0));
+    assert_eq!(write(Head { p: 3, ..A }, &BLOCKS, 0, 7, &[]), refused(Reason::BrokenSize, 0));
+    assert_eq!(write(Head { flag: 2, ..A }, &BLOCKS, 3, 7, &READINGS), refused(Reason::BrokenSize, 0));
     assert_eq!(write(A, &[1, 4, 2, 9], 3, 7, &[]), refused(Reason::WrongLength, 0));
-    assert_eq!(write(A, &[1, 4, 2, 4], 0, 7, &READINGS_OF_A), refused(Reason::BadObject, 3));
-    assert_eq!(write(A, &[1, 4, 2, 0], 0, 7, &READINGS_OF_A), refused(Reason::Unbalanced, 0));
-    assert_eq!(write(A, &BLOCKS_OF_A, 32, 7, &[200_001; 5]), refused(Reason::BadRestraint, 0));
-    assert_eq!(write(A, &BLOCKS_OF_A, 3, 7, &[0, 0, -200_001, 0, 200_001]), refused(Reason::BadReading, 2));
+    assert_eq!(write(A, &[1, 4, 2, 4], 0, 7, &READINGS), refused(Reason::BadObject, 3));
+    assert_eq!(write(A, &[1, 4, 2, 0], 0, 7, &READINGS), refused(Reason::Unbalanced, 0));
+    assert_eq!(write(A, &BLOCKS, 32, 7, &[200_001; 5]), refused(Reason::BadRestraint, 0));
+    assert_eq!(write(A, &BLOCKS, 3, 7, &[0, 0, -200_001, 0, 200_001]), refused(Reason::BadReading, 2));
 }
 
 #[test]
@@ -116,9 +189,256 @@ fn every_example_is_listed() {
     for entry in std::fs::read_dir(folder).unwrap() {
         let name = entry.unwrap().file_name().into_string().unwrap();
         if let Some(stem) = name.strip_suffix(".job") {
-            assert_eq!(listing(&example(&name)), String::from_utf8(example(&format!("{stem}.listing"))).unwrap(), "{name}");
+            assert_eq!(listing(&example(&name)).unwrap(), String::from_utf8(example(&format!("{stem}.listing"))).unwrap(), "{name}");
             jobs += 1;
         }
     }
     assert!(jobs >= 16);
+}
+
+// ---- what is lent, through `calls`
+
+/// 10 at 0, as it is returned.
+const NO_ROOM: u64 = 10;
+
+/// What every lent buffer holds before a call, by its kind.
+const WORD: u64 = 0xA5A5;
+const SIGNED: i64 = -12345;
+const REAL: f64 = -1.5;
+const BYTE: u8 = 0xA5;
+
+/// Lends a buffer that is exact, one that is longer by three entries, and one that is one entry short: on acceptance its first entries are `wanted` and the
+/// others stay; of the short one the call is refused by 10, and all stays.
+fn lent<T: Copy + PartialEq + std::fmt::Debug>(about: &str, filled: T, wanted: &[T], call: impl Fn(&mut [T]) -> u64) {
+    for length in [wanted.len(), wanted.len() + 3] {
+        let mut buffer = vec![filled; length];
+        assert_eq!(call(&mut buffer), 0, "{about}: {length} lent");
+        assert_eq!((&buffer[..wanted.len()], &buffer[wanted.len()..]), (wanted, &vec![filled; length - wanted.len()][..]), "{about}: {length} lent");
+    }
+    let mut buffer = vec![filled; wanted.len() - 1];
+    assert_eq!(call(&mut buffer), NO_ROOM, "{about}: too few lent");
+    assert_eq!(buffer, vec![filled; wanted.len() - 1], "{about}: too few lent");
+}
+
+/// A refused call hands back its number and place, and leaves the buffer, which is long enough, as it was.
+fn stays<T: Copy + PartialEq + std::fmt::Debug>(about: &str, filled: T, number: u64, place: u64, call: impl Fn(&mut [T]) -> u64) {
+    for length in [0, 7000] {
+        let mut buffer = vec![filled; length];
+        assert_eq!(call(&mut buffer), number + (place << 16), "{about}: {length} lent");
+        assert_eq!(buffer, vec![filled; length], "{about}: {length} lent");
+    }
+}
+
+/// The words of a table, row after row.
+fn flat(table: Table) -> Vec<u64> {
+    table.concat()
+}
+
+#[test]
+fn rooms_and_slots_of_designs() {
+    let Head { n, flag, p, m } = A;
+    lent("develop", WORD, &develop(A, &BLOCKS).unwrap(), |words| calls::develop(n, flag, p, m, &BLOCKS, words));
+    lent("develop_initial", WORD, &develop(A, &BLOCKS).unwrap(), |words| calls::develop_initial(n, flag, p, m, &BLOCKS, 0, words));
+    lent("company", WORD, &flat(company(A, &BLOCKS).unwrap()), |table| calls::company(n, flag, p, m, &BLOCKS, table));
+    lent("opposition", WORD, &flat(opposition(A, &BLOCKS).unwrap()), |table| calls::opposition(n, flag, p, m, &BLOCKS, table));
+    lent("judge", WORD, &[5, 5, 4, 2, 1, 2], |answer| calls::judge(n, flag, p, m, &BLOCKS, answer));
+    let bad = [1, 4, 2, 4];
+    stays("develop", WORD, 5, 3, |words| calls::develop(n, flag, p, m, &bad, words));
+    stays("develop_initial", WORD, 5, 9, |words| calls::develop_initial(n, flag, p, m, &BLOCKS, 9, words));
+    stays("company", WORD, 5, 3, |table| calls::company(n, flag, p, m, &bad, table));
+    stays("opposition", WORD, 5, 3, |table| calls::opposition(n, flag, p, m, &bad, table));
+    stays("judge", WORD, 6, 0, |answer| calls::judge(4, 0, 1, 1, &[0, 1], answer));
+}
+
+#[test]
+fn a_call_for_one_initial_block_writes_its_own_words_alone() {
+    let blocks = [0, 1, 0, 1, 0, 2];
+    let words = develop(Head { n: 4, flag: 0, p: 1, m: 3 }, &blocks).unwrap();
+    let mut room = [WORD; 24];
+    assert_eq!(calls::develop_initial(4, 0, 1, 3, &blocks, 1, &mut room), 0);
+    assert_eq!((&room[..8], &room[8..16], &room[16..]), (&[WORD; 8][..], &words[8..16], &[WORD; 8][..]));
+    let mut short = [WORD; 23];
+    assert_eq!((calls::develop_initial(4, 0, 1, 3, &blocks, 1, &mut short), short), (NO_ROOM, [WORD; 23]));
+}
+
+#[test]
+fn rooms_and_slots_of_jobs() {
+    let Head { n, flag, p, m } = A;
+    let (b, y) = (&BLOCKS[..], &READINGS[..]);
+    lent("total", SIGNED, &[22], |signed| calls::total(n, flag, p, m, b, y, 1, signed));
+    lent("sum_of_squares", WORD, &[211], |answer| calls::sum_of_squares(n, flag, p, m, y, answer));
+    lent("sum_of_squared_totals", WORD, &[1030], |answer| calls::sum_of_squared_totals(n, flag, p, m, b, y, answer));
+    lent("values", SIGNED, &[-3, 73, 19, 5, 51], |values| calls::values(n, flag, p, m, b, y, SET, SUM, values));
+    lent("deviations", SIGNED, &[5; 5], |deviations| calls::deviations(n, flag, p, m, b, y, deviations));
+    lent("q", WORD, &[25], |answer| calls::q(n, flag, p, m, b, y, answer));
+    let far = [0, 0, 0, 200_001, 0];
+    stays("total", SIGNED, 5, 5, |signed| calls::total(n, flag, p, m, b, &far, 5, signed));
+    stays("sum_of_squares", WORD, 8, 3, |answer| calls::sum_of_squares(n, flag, p, m, &far, answer));
+    stays("sum_of_squared_totals", WORD, 8, 3, |answer| calls::sum_of_squared_totals(n, flag, p, m, b, &far, answer));
+    stays("values", SIGNED, 7, 0, |values| calls::values(n, flag, p, m, b, &far, 0, SUM, values));
+    stays("deviations", SIGNED, 8, 3, |deviations| calls::deviations(n, flag, p, m, b, &far, deviations));
+    stays("q", WORD, 8, 3, |answer| calls::q(n, flag, p, m, b, &far, answer));
+    assert_eq!(calls::refusal(n, flag, p, m, b, &far, SET, SUM), 8 + (3 << 16));
+    assert_eq!(calls::pairs_refusal(n, flag, p, m, &[1, 4, 2, 4]), 5 + (3 << 16));
+}
+
+/// The slots of a call that has several kinds: what they hold after it.
+type Slots = (Vec<i64>, Vec<u64>, Vec<f64>);
+
+/// Lends slots of three kinds, exact and longer; then each kind one short; then lets the call refuse. Kinds that the call has not are lent empty.
+fn slots(about: &str, wanted: Slots, call: impl Fn(&mut [i64], &mut [u64], &mut [f64]) -> u64, refusal: u64, refused: impl Fn(&mut [i64], &mut [u64], &mut [f64]) -> u64) {
+    let of = |signed, words, reals| (vec![SIGNED; signed], vec![WORD; words], vec![REAL; reals]);
+    let counts = (wanted.0.len(), wanted.1.len(), wanted.2.len());
+    let lend = |lengths: (usize, usize, usize), call: &dyn Fn(&mut [i64], &mut [u64], &mut [f64]) -> u64| {
+        let mut lent = of(lengths.0, lengths.1, lengths.2);
+        let returned = call(&mut lent.0, &mut lent.1, &mut lent.2);
+        (returned, lent)
+    };
+    for more in [0, 3] {
+        let (returned, lent) = lend((counts.0 + more, counts.1 + more, counts.2 + more), &call);
+        assert_eq!(returned, 0, "{about}: {more} more");
+        assert_eq!((&lent.0[..counts.0], &lent.1[..counts.1], &lent.2[..counts.2]), (&wanted.0[..], &wanted.1[..], &wanted.2[..]), "{about}: {more} more");
+        let later = of(lent.0.len() - counts.0, lent.1.len() - counts.1, lent.2.len() - counts.2);
+        assert_eq!((&lent.0[counts.0..], &lent.1[counts.1..], &lent.2[counts.2..]), (&later.0[..], &later.1[..], &later.2[..]), "{about}: later slots");
+    }
+    for kind in 0..3 {
+        let mut lengths = [counts.0, counts.1, counts.2];
+        if lengths[kind] == 0 {
+            continue;
+        }
+        lengths[kind] -= 1;
+        let lengths = (lengths[0], lengths[1], lengths[2]);
+        assert_eq!(lend(lengths, &call), (NO_ROOM, of(lengths.0, lengths.1, lengths.2)), "{about}: kind {kind} one short");
+        assert_eq!(lend(lengths, &refused), (refusal, of(lengths.0, lengths.1, lengths.2)), "{about}: refused, kind {kind} one short");
+    }
+    assert_eq!(lend(counts, &refused), (refusal, of(counts.0, counts.1, counts.2)), "{about}: refused");
+}
+
+#[test]
+fn slots_of_several_kinds() {
+    let Head { n, flag, p, m } = A;
+    let (b, y) = (&BLOCKS[..], &READINGS[..]);
+    slots(
+        "value_of",
+        (vec![73, 730], vec![10], vec![7.3]),
+        |signed, answer, real| calls::value_of(n, flag, p, m, b, y, SET, SUM, 1, signed, answer, real),
+        5 + (6 << 16),
+        |signed, answer, real| calls::value_of(n, flag, p, m, b, y, SET, SUM, 6, signed, answer, real),
+    );
+    slots(
+        "deviation_of",
+        (vec![5], vec![5], vec![]),
+        |signed, answer, _| calls::deviation_of(n, flag, p, m, b, y, 1, signed, answer),
+        5 + (6 << 16),
+        |signed, answer, _| calls::deviation_of(n, flag, p, m, b, y, 6, signed, answer),
+    );
+    slots(
+        "spread",
+        (vec![], vec![25, 5, 1, 223, 1], vec![2.23]),
+        |_, answer, real| calls::spread(n, flag, p, m, b, y, answer, real),
+        6,
+        |_, answer, real| calls::spread(4, 0, 1, 1, &[0, 1], &[0; 4], answer, real),
+    );
+    slots(
+        "field_at",
+        (vec![], vec![10, 14], vec![]),
+        |_, answer, _| calls::field_at(&example("A.job"), 7, 2, 4, answer),
+        2 + (7 << 16),
+        |_, answer, _| calls::field_at(&example("A.job"), 7, 3, 4, answer),
+    );
+    slots(
+        "read",
+        (vec![7], vec![5, 0, 2, 1, 10, 36, 3], vec![]),
+        |signed, answer, _| calls::read(&example("A.job"), signed, answer),
+        9 + (56 << 16),
+        |signed, answer, _| calls::read(&example("K-byte-added.job"), signed, answer),
+    );
+}
+
+/// Rooms of a job worked out, and its slots.
+struct Lent {
+    words: Vec<u64>,
+    values: Vec<i64>,
+    deviations: Vec<i64>,
+    answer: Vec<u64>,
+    real: Vec<f64>,
+}
+
+impl Lent {
+    fn new(lengths: [usize; 5]) -> Lent {
+        let [words, values, deviations, answer, real] = lengths;
+        Lent { words: vec![WORD; words], values: vec![SIGNED; values], deviations: vec![SIGNED; deviations], answer: vec![WORD; answer], real: vec![REAL; real] }
+    }
+
+    fn untouched(&self) -> bool {
+        self.words.iter().chain(&self.answer).all(|word| *word == WORD)
+            && self.values.iter().chain(&self.deviations).all(|number| *number == SIGNED)
+            && self.real.iter().all(|real| *real == REAL)
+    }
+}
+
+/// A call that works a job out.
+type Working<'a> = &'a dyn Fn(&mut [u64], &mut [i64], &mut [i64], &mut [u64], &mut [f64]) -> u64;
+
+#[test]
+fn rooms_and_slots_of_a_job_worked_out() {
+    let Head { n, flag, p, m } = A;
+    let a = example("A.job");
+    let far = [0, 0, 0, 0, 200_001];
+    let analyse: Working = &|w, v, d, answer, real| calls::analyse(n, flag, p, m, &BLOCKS, &READINGS, SET, SUM, w, v, d, answer, real);
+    let solve: Working = &|w, v, d, answer, real| calls::solve(&a, w, v, d, answer, real);
+    let analyse_far: Working = &|w, v, d, answer, real| calls::analyse(n, flag, p, m, &BLOCKS, &far, SET, SUM, w, v, d, answer, real);
+    let solve_cut: Working = &|w, v, d, answer, real| calls::solve(&a[..55], w, v, d, answer, real);
+    const EXACT: [usize; 5] = [10, 5, 5, 12, 1];
+    let lend = |lengths: [usize; 5], call: Working| {
+        let mut lent = Lent::new(lengths);
+        let returned = call(&mut lent.words, &mut lent.values, &mut lent.deviations, &mut lent.answer, &mut lent.real);
+        (returned, lent)
+    };
+    for (about, call) in [("analyse", analyse), ("solve", solve)] {
+        for more in [0, 3] {
+            let (returned, lent) = lend(EXACT.map(|length| length + more), call);
+            assert_eq!(returned, 0, "{about}");
+            assert_eq!(lent.words[..10], develop(A, &BLOCKS).unwrap(), "{about}");
+            assert_eq!((&lent.values[..5], &lent.deviations[..5]), (&[-3, 73, 19, 5, 51][..], &[5; 5][..]), "{about}");
+            assert_eq!((&lent.answer[..12], &lent.real[..1]), (&[5, 5, 4, 2, 1, 2, 10, 25, 5, 1, 223, 1][..], &[2.23][..]), "{about}");
+            assert_eq!((&lent.words[10..], &lent.answer[12..]), (&vec![WORD; more][..], &vec![WORD; more][..]), "{about}");
+            assert_eq!((&lent.values[5..], &lent.deviations[5..], &lent.real[1..]), (&vec![SIGNED; more][..], &vec![SIGNED; more][..], &vec![REAL; more][..]), "{about}");
+        }
+    }
+    for (about, call, refusal) in [("analyse", analyse, 0), ("solve", solve, 0), ("analyse", analyse_far, 8 + (4 << 16)), ("solve", solve_cut, 1 + (33 << 16))] {
+        // each buffer one short, then all of them: 10, or what comes before it; and nothing is written
+        for short in 0..6 {
+            let mut lengths = EXACT;
+            lengths.iter_mut().enumerate().filter(|(k, _)| short == 5 || *k == short).for_each(|(_, length)| *length -= 1);
+            let (returned, lent) = lend(lengths, call);
+            assert_eq!(returned, if refusal == 0 { NO_ROOM } else { refusal }, "{about}: {lengths:?}");
+            assert!(lent.untouched(), "{about}: {lengths:?}");
+        }
+        if refusal != 0 {
+            let (returned, lent) = lend([3000; 5], call);
+            assert!(returned == refusal && lent.untouched(), "{about}");
+        }
+    }
+}
+
+#[test]
+fn rooms_and_slots_of_files_that_are_written() {
+    let Head { n, flag, p, m } = A;
+    let (a, text) = (example("A.job"), example("A.listing"));
+    let write = |out: &mut [u8], answer: &mut [u64]| calls::write(n, flag, p, m, &BLOCKS, SET, SUM, &READINGS, out, answer);
+    let list = |out: &mut [u8], answer: &mut [u64]| calls::listing(&a, out, answer);
+    lent("write", BYTE, &a, |out| write(out, &mut [0; 2]));
+    lent("write", WORD, &[56], |answer| write(&mut [0; 60], answer));
+    lent("listing", BYTE, &text, |out| list(out, &mut [0; 2]));
+    lent("listing", WORD, &[text.len() as u64], |answer| list(&mut [0; 1000], answer));
+    // without a slot nothing is written; and the job's own refusal comes first
+    let mut out = [BYTE; 1000];
+    assert_eq!((write(&mut out, &mut []), out), (NO_ROOM, [BYTE; 1000]));
+    assert_eq!((list(&mut out, &mut []), out), (NO_ROOM, [BYTE; 1000]));
+    let mut answer = [WORD];
+    let unbalanced = |out: &mut [u8], answer: &mut [u64]| calls::write(4, 0, 1, 1, &[0, 1], SET, SUM, &[0; 4], out, answer);
+    assert_eq!((unbalanced(&mut out, &mut answer), out, answer), (6, [BYTE; 1000], [WORD]));
+    assert_eq!((unbalanced(&mut out, &mut []), out), (6, [BYTE; 1000]));
+    assert_eq!(unbalanced(&mut [], &mut []), 6);
 }

@@ -22,7 +22,7 @@ mod solve;
 mod stored;
 
 use job::{Draft, Refusal};
-use mass_bench::{write_into, Head};
+use mass_bench::{calls, refusal_in};
 use std::collections::BTreeMap;
 use std::process::ExitCode;
 
@@ -40,15 +40,9 @@ fn main() -> ExitCode {
             println!("{about}: {failure}");
         }
     };
-    let mut left_out = 0;
     for index in 0..count {
         let parts = damage::parts(seed, index);
-        // The crate's head says by a bool whether the fixed object takes part.
-        if parts.draft.flag <= 1 {
-            tell(format!("parts {seed} {index} ({})", parts.about), compared(&parts.draft));
-        } else {
-            left_out += 1;
-        }
+        tell(format!("parts {seed} {index} ({})", parts.about), compared(&parts.draft));
     }
     let stored = stored::trials().into_iter().map(|trial| (trial.name, trial.bytes));
     let seeded = (0..count).map(|index| damage::seeded(seed + 1, index)).map(|trial| (trial.about, trial.bytes));
@@ -58,7 +52,7 @@ fn main() -> ExitCode {
         }
     }
     let kinds: Vec<String> = alike.iter().map(|(kind, count)| format!("{count} {kind}")).collect();
-    println!("jobs: {}; left out for a flag above 1: {left_out}", kinds.join(", "));
+    println!("jobs: {}", kinds.join(", "));
     println!("{} passed, {failed} failed", alike.values().sum::<u64>());
     if failed == 0 {
         ExitCode::SUCCESS
@@ -99,9 +93,10 @@ const UNTOUCHED: u8 = 0xA5;
 type Written = (Result<usize, (u8, u64)>, Vec<u8>);
 
 fn written(draft: &Draft, room: usize) -> Written {
-    let mut out = vec![UNTOUCHED; room];
-    let head = Head { n: draft.n.into(), fixed: draft.flag == 1, p: draft.p.into(), m: draft.m.into() };
-    let answer = write_into(head, &draft.objects, draft.restraint, draft.sum, &draft.readings, &mut out);
+    let (mut out, mut length) = (vec![UNTOUCHED; room], [0]);
+    let [n, flag, p, m] = [draft.n, draft.flag, draft.p, draft.m].map(usize::from);
+    let returned = calls::write(n, flag, p, m, &draft.objects, draft.restraint, draft.sum, &draft.readings, &mut out, &mut length);
+    let answer = refusal_in(returned).map(|()| length[0] as usize);
     (answer.map_err(|refusal| (refusal.reason.number(), refusal.place)), out)
 }
 

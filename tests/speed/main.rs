@@ -99,7 +99,7 @@ fn times<T, const K: usize>(calls: [&dyn Fn() -> T; K]) -> [f64; K] {
 
 fn judge_proved(job: &Job) -> Option<u64> {
     let Head { n, flag, p, m } = job.head;
-    mass_bench::judge(mass_bench::Head { n, fixed: flag == 1, p, m }, black_box(&job.blocks)).ok().map(|a| a.l2)
+    mass_bench::judge(mass_bench::Head { n, flag, p, m }, black_box(&job.blocks)).ok().map(|a| a.l2)
 }
 
 fn judge_plain(job: &Job) -> Option<u64> {
@@ -119,8 +119,10 @@ fn rooms() -> Rooms {
 
 fn solve_proved(job: &Job, rooms: &mut Rooms) -> Option<(u64, u64)> {
     let Rooms { words, values, deviations } = rooms;
-    let solved = mass_bench::solve_into(black_box(&job.file), words, values, deviations).ok()?;
-    Some((solved.q, solved.spread.map_or(0, |s| s.hundredths)))
+    let (mut answer, mut real) = ([0; 12], [0.0]);
+    let returned = mass_bench::calls::solve(black_box(&job.file), words, values, deviations, &mut answer, &mut real);
+    // Q and the hundredths of the spread, as in hosts/bench.h
+    (returned == 0).then_some((answer[7], answer[10]))
 }
 
 fn solve_plain(job: &Job, rooms: &mut Rooms) -> Option<(u64, u64)> {

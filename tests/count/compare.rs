@@ -12,7 +12,7 @@ use std::thread;
 use std::time::Duration;
 
 /// Heads at each bound of the sizes, on both sides of it: n, flag, p, m. Alone in a file they are refused by 4 or for the missing field.
-const HEADS: [[u8; 4]; 32] = [
+pub const HEADS: [[u8; 4]; 32] = [
     [3, 0, 1, 1],
     [2, 0, 1, 1],
     [2, 1, 1, 1],

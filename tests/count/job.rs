@@ -39,13 +39,13 @@ impl Head {
         self.m * self.n
     }
 
-    /// All sizes kept. The numbers come from single bytes, so nothing here can wrap.
+    /// All sizes kept. A direct call may ask with numbers of any size: each is bounded before it is added or multiplied.
     pub fn in_size(&self) -> bool {
         (3..=50).contains(&self.n)
             && self.flag <= 1
             && self.objects() <= 50
             && self.p >= 1
-            && 2 * self.p <= self.objects()
+            && self.p <= self.objects() / 2
             && (1..=64).contains(&self.m)
             && self.blocks() <= 1300
     }
@@ -95,14 +95,19 @@ pub struct Job {
 }
 
 /// What is left of the file, and where that begins.
-struct Cursor<'a> {
+pub struct Cursor<'a> {
     rest: &'a [u8],
-    place: usize,
+    pub place: usize,
 }
 
 impl<'a> Cursor<'a> {
+    /// At a place of some bytes; past their end nothing is left.
+    pub fn at(bytes: &'a [u8], place: usize) -> Cursor<'a> {
+        Cursor { rest: bytes.get(place..).unwrap_or(&[]), place }
+    }
+
     /// Start, tag, length, body: in this order, every refusal at the field's start.
-    fn field(&mut self, tag: u8, length: usize) -> Result<&'a [u8], Refusal> {
+    pub fn field(&mut self, tag: u8, length: usize) -> Result<&'a [u8], Refusal> {
         let [found, high, low, after @ ..] = self.rest else {
             return refused(1, self.place);
         };
@@ -124,7 +129,7 @@ impl<'a> Cursor<'a> {
 
 /// The job in these bytes, or the first refusal in file order.
 pub fn read(bytes: &[u8]) -> Result<Job, Refusal> {
-    let mut cursor = Cursor { rest: bytes, place: 0 };
+    let mut cursor = Cursor::at(bytes, 0);
     let sizes = cursor.field(1, 4)?;
     let head = Head { n: sizes[0].into(), flag: sizes[1].into(), p: sizes[2].into(), m: sizes[3].into() };
     if !head.in_size() {
@@ -148,20 +153,35 @@ pub fn read(bytes: &[u8]) -> Result<Job, Refusal> {
         return refused(6, 0);
     };
     let (set, sum) = restraint.split_at(8);
-    let set: BTreeSet<usize> = (0..64).filter(|object| set[7 - object / 8] >> (object % 8) & 1 == 1).collect();
+    let set = members(set.iter().fold(0, |word, byte| word << 8 | u64::from(*byte)));
     let sum = signed(sum);
-    if set.is_empty() || set.iter().any(|object| *object >= head.objects()) || sum.abs() > SUM_LIMIT {
+    if !is_restraint(&head, &set, sum) {
         return refused(7, restraint_place);
     }
     let readings: Vec<i128> = readings.chunks(4).map(signed).collect();
-    if let Some(index) = readings.iter().position(|reading| reading.abs() > READING_LIMIT) {
+    if let Some(index) = first_far(&readings) {
         return refused(8, readings_place + 4 * index);
     }
     Ok(Job { head, blocks, balance, restraint: set, sum, readings })
 }
 
+/// The objects of a restraint set, which has a bit for each.
+pub fn members(set: u64) -> BTreeSet<usize> {
+    (0..64).filter(|object| set >> object & 1 == 1).collect()
+}
+
+/// Whether a set has objects, all of this design, and its accepted sum is in range.
+pub fn is_restraint(head: &Head, set: &BTreeSet<usize>, sum: i128) -> bool {
+    !set.is_empty() && set.iter().all(|object| *object < head.objects()) && sum.abs() <= SUM_LIMIT
+}
+
+/// The index of the first reading out of range.
+pub fn first_far(readings: &[i128]) -> Option<usize> {
+    readings.iter().position(|reading| reading.abs() > READING_LIMIT)
+}
+
 /// The index of the first byte that is no object of this design, or stood in its block before.
-fn first_unclean(head: &Head, objects: &[u8]) -> Option<usize> {
+pub fn first_unclean(head: &Head, objects: &[u8]) -> Option<usize> {
     let mut seen = BTreeSet::new();
     for (index, object) in objects.iter().enumerate() {
         if index % (2 * head.p) == 0 {

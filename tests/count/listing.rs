@@ -1,18 +1,26 @@
 //! The listing of any bytes, as the bench prints it.
 
-use crate::job;
-use crate::solve::solve;
+use crate::job::{self, Job, Refusal};
+use crate::solve::{solve, Results};
 use std::fmt::Write;
 
 /// The bench takes no more of its input than this.
 pub const READ_LIMIT: usize = 8192;
 
 pub fn listing(bytes: &[u8]) -> String {
-    let job = match job::read(&bytes[..bytes.len().min(READ_LIMIT)]) {
-        Ok(job) => job,
-        Err(refusal) => return format!("refused {} {}\n", refusal.number, refusal.place),
-    };
-    let results = solve(&job);
+    match job::read(&bytes[..bytes.len().min(READ_LIMIT)]) {
+        Ok(job) => accepted(&job, &solve(&job)),
+        Err(refusal) => refused(refusal),
+    }
+}
+
+/// The line of a refusal.
+pub fn refused(refusal: Refusal) -> String {
+    format!("refused {} {}\n", refusal.number, refusal.place)
+}
+
+/// The lines of a job that is accepted.
+pub fn accepted(job: &Job, results: &Results) -> String {
     let mut text = String::new();
     let mut line = |words: &[&str], numbers: &[i128]| {
         let shown: Vec<String> = words.iter().map(|word| word.to_string()).chain(numbers.iter().map(|number| number.to_string())).collect();

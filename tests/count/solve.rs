@@ -2,6 +2,7 @@
 //!
 //! Nothing here starts from the paper's closed forms. They are asserted at the end, so that they and the solved equations bear each other out.
 
+use crate::design::Block;
 use crate::job::Job;
 use std::cmp::Ordering;
 
@@ -78,8 +79,13 @@ pub struct Results {
 
 /// The sum of the readings with each object on the left less those with it on the right.
 pub fn totals(job: &Job) -> Vec<i128> {
-    let mut totals = vec![0; job.head.objects()];
-    for (block, reading) in job.blocks.iter().zip(&job.readings) {
+    totals_of(job.head.objects(), &job.blocks, &job.readings)
+}
+
+/// The same over any blocks, balanced or not.
+pub fn totals_of(v: usize, blocks: &[Block], readings: &[i128]) -> Vec<i128> {
+    let mut totals = vec![0; v];
+    for (block, reading) in blocks.iter().zip(readings) {
         block.left.iter().for_each(|object| totals[*object] += reading);
         block.right.iter().for_each(|object| totals[*object] -= reading);
     }

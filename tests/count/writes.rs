@@ -17,12 +17,14 @@ mod design;
 mod job;
 mod listing;
 mod papers;
+mod parts;
 mod seed;
 mod solve;
 mod stored;
 
 use job::{Draft, Refusal};
 use mass_bench::{calls, refusal_in};
+use parts::parts_of;
 use std::collections::BTreeMap;
 use std::process::ExitCode;
 
@@ -121,19 +123,4 @@ fn refusal(draft: &Draft) -> Option<Refusal> {
         _ => 0,
     };
     Some(Refusal { number, place })
-}
-
-/// The parts of a file that nothing refuses.
-fn parts_of(bytes: &[u8]) -> Option<Draft> {
-    let job = job::read(bytes).ok()?;
-    Some(Draft {
-        n: bytes[3],
-        flag: bytes[4],
-        p: bytes[5],
-        m: bytes[6],
-        objects: bytes[10..10 + 2 * job.head.p * job.head.m].to_vec(),
-        restraint: job.restraint.iter().map(|object| 1 << object).sum(),
-        sum: job.sum as i64,
-        readings: job.readings.iter().map(|reading| *reading as i32).collect(),
-    })
 }

@@ -286,7 +286,13 @@ fn rooms_and_slots_of_jobs() {
 type Slots = (Vec<i64>, Vec<u64>, Vec<f64>);
 
 /// Lends slots of three kinds, exact and longer; then each kind one short; then lets the call refuse. Kinds that the call has not are lent empty.
-fn slots(about: &str, wanted: Slots, call: impl Fn(&mut [i64], &mut [u64], &mut [f64]) -> u64, refusal: u64, refused: impl Fn(&mut [i64], &mut [u64], &mut [f64]) -> u64) {
+fn slots(
+    about: &str,
+    wanted: Slots,
+    call: impl Fn(&mut [i64], &mut [u64], &mut [f64]) -> u64,
+    refusal: u64,
+    refused: impl Fn(&mut [i64], &mut [u64], &mut [f64]) -> u64,
+) {
     let of = |signed, words, reals| (vec![SIGNED; signed], vec![WORD; words], vec![REAL; reals]);
     let counts = (wanted.0.len(), wanted.1.len(), wanted.2.len());
     let lend = |lengths: (usize, usize, usize), call: &dyn Fn(&mut [i64], &mut [u64], &mut [f64]) -> u64| {
@@ -367,7 +373,8 @@ struct Lent {
 impl Lent {
     fn new(lengths: [usize; 5]) -> Lent {
         let [words, values, deviations, answer, real] = lengths;
-        Lent { words: vec![WORD; words], values: vec![SIGNED; values], deviations: vec![SIGNED; deviations], answer: vec![WORD; answer], real: vec![REAL; real] }
+        let [values, deviations] = [values, deviations].map(|length| vec![SIGNED; length]);
+        Lent { words: vec![WORD; words], values, deviations, answer: vec![WORD; answer], real: vec![REAL; real] }
     }
 
     fn untouched(&self) -> bool {
@@ -403,10 +410,12 @@ fn rooms_and_slots_of_a_job_worked_out() {
             assert_eq!((&lent.values[..5], &lent.deviations[..5]), (&[-3, 73, 19, 5, 51][..], &[5; 5][..]), "{about}");
             assert_eq!((&lent.answer[..12], &lent.real[..1]), (&[5, 5, 4, 2, 1, 2, 10, 25, 5, 1, 223, 1][..], &[2.23][..]), "{about}");
             assert_eq!((&lent.words[10..], &lent.answer[12..]), (&vec![WORD; more][..], &vec![WORD; more][..]), "{about}");
-            assert_eq!((&lent.values[5..], &lent.deviations[5..], &lent.real[1..]), (&vec![SIGNED; more][..], &vec![SIGNED; more][..], &vec![REAL; more][..]), "{about}");
+            assert_eq!((&lent.values[5..], &lent.deviations[5..]), (&vec![SIGNED; more][..], &vec![SIGNED; more][..]), "{about}");
+            assert_eq!(&lent.real[1..], &vec![REAL; more][..], "{about}");
         }
     }
-    for (about, call, refusal) in [("analyse", analyse, 0), ("solve", solve, 0), ("analyse", analyse_far, 8 + (4 << 16)), ("solve", solve_cut, 1 + (33 << 16))] {
+    let (far, cut) = (8 + (4 << 16), 1 + (33 << 16));
+    for (about, call, refusal) in [("analyse", analyse, 0), ("solve", solve, 0), ("analyse", analyse_far, far), ("solve", solve_cut, cut)] {
         // each buffer one short, then all of them: 10, or what comes before it; and nothing is written
         for short in 0..6 {
             let mut lengths = EXACT;

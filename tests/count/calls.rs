@@ -1,0 +1,479 @@
+//! Every call that the bench exports against the count: what it returns, and every entry of every room and slot that it is lent.
+//!
+//! The calls are made as a program in C makes them. Built by `hosts/test`, which links the bench's archive:
+//!
+//!     calls SEED COUNT            every call of hosts/bench.h on a job at every bound, every stored one and COUNT seeded ones, by their parts and as files
+//!     calls SEED COUNT spoiled    the same, but one bit of what the count expects is turned in each comparison, and each must see it
+//!
+//! A call that the count accepts is lent rooms of just the length that it asks for, longer ones, and each room in turn too short, which is refused by 10. One
+//! that it refuses is lent long rooms and none. Around each room lie entries that are not lent; what a call does not write must stay as it was.
+//! A call fails that differs anywhere, and one that was never accepted or, by some test that it makes, never refused: a comparison of nothing would pass too.
+//! A new call is a row of `CALLS`, a new refusal a row of `ORDER` in asked.rs.
+
+// The count's own program uses what this one does not.
+#![allow(dead_code)]
+
+mod asked;
+mod balanced;
+mod compare;
+mod damage;
+mod design;
+mod job;
+mod listing;
+mod papers;
+mod parts;
+mod seed;
+mod solve;
+mod stored;
+
+use asked::{at_bounds, harm, look_for_field, numbers, places, Asked, Solved, Test, ORDER};
+use design::{pairs, Balance, Block};
+use job::{Head, Refusal};
+use parts::parts_of;
+use seed::Seed;
+use solve::{nearest_even, totals_of, Results};
+use std::collections::{BTreeMap, BTreeSet};
+use std::ffi::c_void;
+use std::process::ExitCode;
+
+/// A call: its name, the rooms and slots that it is lent, how it is made, the tests that it makes, and what it leaves where it accepts.
+struct Call {
+    name: &'static str,
+    rooms: &'static [&'static str],
+    made: fn(&Asked, &mut Lent) -> u64,
+    tests: &'static [&'static [Test]],
+    answer: fn(&Asked) -> Vec<Left>,
+}
+
+/// What an accepted call leaves in a room: how many entries it asks for, and what it writes, from which entry on.
+struct Left {
+    asked: usize,
+    from: usize,
+    entries: Vec<u64>,
+}
+
+/// A row of the table below: a call of hosts/bench.h by what it takes, and by the rooms and slots that it is lent.
+macro_rules! call {
+    ($name:ident($($taken:ident)*; $($room:ident)*), [$($tests:expr),*], $answer:expr) => {
+        Call {
+            name: stringify!($name),
+            rooms: &[$(stringify!($room)),*],
+            made: |asked, lent| passed!($name asked lent [] [] [$($room)*] $($taken)*),
+            tests: &[$($tests),*],
+            answer: $answer,
+        }
+    };
+}
+
+// The arguments are taken one by one, into their types in C and what is passed.
+macro_rules! passed {
+    ($name:ident $asked:ident $lent:ident [$($type:ty,)*] [$($value:expr,)*] $rooms:tt head $($rest:ident)*) => {
+        passed!($name $asked $lent [$($type,)* usize, usize, usize, usize,]
+            [$($value,)* $asked.head.n, $asked.head.flag, $asked.head.p, $asked.head.m,] $rooms $($rest)*)
+    };
+    ($name:ident $asked:ident $lent:ident [$($type:ty,)*] [$($value:expr,)*] $rooms:tt blocks $($rest:ident)*) => {
+        passed!($name $asked $lent [$($type,)* *const u8, usize,] [$($value,)* $asked.objects.as_ptr(), $asked.objects.len(),] $rooms $($rest)*)
+    };
+    ($name:ident $asked:ident $lent:ident [$($type:ty,)*] [$($value:expr,)*] $rooms:tt readings $($rest:ident)*) => {
+        passed!($name $asked $lent [$($type,)* *const i32, usize,] [$($value,)* $asked.readings.as_ptr(), $asked.readings.len(),] $rooms $($rest)*)
+    };
+    ($name:ident $asked:ident $lent:ident [$($type:ty,)*] [$($value:expr,)*] $rooms:tt restraint $($rest:ident)*) => {
+        passed!($name $asked $lent [$($type,)* u64, i64,] [$($value,)* $asked.set, $asked.sum,] $rooms $($rest)*)
+    };
+    ($name:ident $asked:ident $lent:ident [$($type:ty,)*] [$($value:expr,)*] $rooms:tt number $($rest:ident)*) => {
+        passed!($name $asked $lent [$($type,)* usize,] [$($value,)* $asked.number,] $rooms $($rest)*)
+    };
+    ($name:ident $asked:ident $lent:ident [$($type:ty,)*] [$($value:expr,)*] $rooms:tt bytes $($rest:ident)*) => {
+        passed!($name $asked $lent [$($type,)* *const u8, usize,] [$($value,)* $asked.bytes.as_ptr(), $asked.bytes.len(),] $rooms $($rest)*)
+    };
+    ($name:ident $asked:ident $lent:ident [$($type:ty,)*] [$($value:expr,)*] $rooms:tt field $($rest:ident)*) => {
+        passed!($name $asked $lent [$($type,)* usize, u8, usize,] [$($value,)* $asked.place, $asked.tag, $asked.length,] $rooms $($rest)*)
+    };
+    ($name:ident $asked:ident $lent:ident [$($type:ty,)*] [$($value:expr,)*] [$($room:ident)*]) => {{
+        extern "C" {
+            fn $name($(_: $type,)* $($room: *mut c_void, _: usize,)*) -> u64;
+        }
+        let _ = &$lent;
+        // Sound: the call has these arguments (hosts/bench.h); every pointer is lent with its length, and each room is a vector of its own.
+        unsafe { $name($($value,)* $($lent.start(stringify!($room)), $lent.length(stringify!($room)),)*) }
+    }};
+}
+
+/// The tests of what calls take: sizes and blocks, readings, a restraint; and of what they need.
+const DESIGN: &[Test] = &[Test::Sizes, Test::BlocksLength, Test::Objects];
+const READINGS: &[Test] = &[Test::ReadingsLength, Test::Readings];
+const RESTRAINT: &[Test] = &[Test::Restraint];
+const BALANCE: &[Test] = &[Test::Balance];
+
+/// Every call, in the order of hosts/bench.h.
+const CALLS: &[Call] = &[
+    call!(bench_pairs_refusal(head blocks;), [DESIGN], |_| vec![]),
+    call!(bench_develop(head blocks; words), [DESIGN], |asked| vec![front(words(asked.blocks()))]),
+    call!(bench_develop_initial(head blocks number; words), [DESIGN, &[Test::InitialBlock]], |asked| {
+        let (n, all) = (asked.head.n, words(asked.blocks()));
+        let from = 2 * n * asked.number;
+        vec![Left { asked: all.len(), from, entries: all[from..from + 2 * n].to_vec() }]
+    }),
+    call!(bench_company(head blocks; table), [DESIGN], |asked| vec![table(pairs(asked.head.objects(), asked.blocks()).0)]),
+    call!(bench_opposition(head blocks; table), [DESIGN], |asked| vec![table(pairs(asked.head.objects(), asked.blocks()).1)]),
+    call!(bench_judge(head blocks; answer), [DESIGN, BALANCE], |asked| {
+        vec![whole(&parameters(&asked.head, asked.blocks(), &asked.balance().expect("a balanced design")))]
+    }),
+    call!(bench_total(head blocks readings number; signed_slots), [DESIGN, READINGS, &[Test::Object]], |asked| vec![whole(&[totals(asked)[asked.number]])]),
+    call!(bench_sum_of_squares(head readings; answer), [&[Test::Sizes], READINGS], |asked| vec![squares(&asked.wide_readings())]),
+    call!(bench_sum_of_squared_totals(head blocks readings; answer), [DESIGN, READINGS], |asked| vec![squares(&totals(asked))]),
+    call!(bench_refusal(head blocks readings restraint;), [DESIGN, READINGS, BALANCE, RESTRAINT], |_| vec![]),
+    call!(bench_values(head blocks readings restraint; values), [DESIGN, READINGS, BALANCE, RESTRAINT], |asked| {
+        vec![whole(&asked.solved().results.numerators)]
+    }),
+    call!(
+        bench_value_of(head blocks readings restraint number; signed_slots answer real),
+        [DESIGN, READINGS, BALANCE, RESTRAINT, &[Test::Object]],
+        |asked| {
+            let results = &asked.solved().results;
+            let (numerator, denominator) = (results.numerators[asked.number], results.denominator);
+            vec![whole(&[numerator, results.hundredths[asked.number]]), whole(&[denominator]), real(numerator, denominator)]
+        }
+    ),
+    call!(bench_deviations(head blocks readings; deviations), [DESIGN, READINGS, BALANCE], |asked| vec![whole(&asked.solved().results.deviations)]),
+    call!(bench_deviation_of(head blocks readings number; signed_slots answer), [DESIGN, READINGS, BALANCE, &[Test::Block]], |asked| {
+        let results = &asked.solved().results;
+        vec![whole(&[results.deviations[asked.number]]), whole(&[results.deviation_denominator])]
+    }),
+    call!(bench_q(head blocks readings; answer), [DESIGN, READINGS, BALANCE], |asked| vec![whole(&[asked.solved().results.q])]),
+    call!(bench_spread(head blocks readings; answer real), [DESIGN, READINGS, BALANCE], |asked| {
+        let results = &asked.solved().results;
+        vec![whole(&spread(results)), real(results.spread.unwrap_or(0), 100)]
+    }),
+    call!(
+        bench_analyse(head blocks readings restraint; words values deviations answer real),
+        [DESIGN, READINGS, BALANCE, RESTRAINT],
+        |asked| everything(asked.solved())
+    ),
+    call!(bench_field_at(bytes field; answer), [&[Test::Field]], |asked| {
+        let body = asked.place + 3;
+        vec![whole(&[body as i128, (body + asked.length) as i128])]
+    }),
+    call!(bench_read(bytes; signed_slots answer), [&[Test::File]], |asked| {
+        let job = &accepted_file(asked).job;
+        let sizes = [job.head.n, job.head.flag, job.head.p, job.head.m, 10, asked.bytes.len() - 4 * job.readings.len()];
+        vec![whole(&[job.sum]), front(sizes.iter().map(|size| *size as u64).chain([word(&job.restraint)]).collect())]
+    }),
+    call!(bench_solve(bytes; words values deviations answer real), [&[Test::File]], |asked| everything(accepted_file(asked))),
+    call!(bench_write(head blocks restraint readings; out answer), [DESIGN, READINGS, BALANCE, RESTRAINT], |asked| text(asked.written())),
+    call!(bench_listing(bytes; out answer), [], |asked| {
+        text(asked.file().map_or_else(listing::refused, |solved| listing::accepted(&solved.job, &solved.results)).into_bytes())
+    }),
+];
+
+fn accepted_file(asked: &Asked) -> &Solved {
+    asked.file().expect("an accepted file")
+}
+
+fn front(entries: Vec<u64>) -> Left {
+    Left { asked: entries.len(), from: 0, entries }
+}
+
+/// Whole numbers, signed or not, each in 64 bits.
+fn whole(numbers: &[i128]) -> Left {
+    assert!(numbers.iter().all(|number| (-(1 << 63)..1 << 64).contains(number)), "a figure of the count outgrew 64 bits");
+    front(numbers.iter().map(|number| *number as u64).collect())
+}
+
+/// The f64 nearest to top/bottom, found over whole numbers: 53 bits of the quotient, of two equally near ones the even one.
+fn real(top: i128, bottom: i128) -> Left {
+    let (mut over, mut under, mut power) = (top.abs(), bottom, 0);
+    while over != 0 && over < under << 52 {
+        (over, power) = (over << 1, power - 1);
+    }
+    while over >= under << 53 {
+        (under, power) = (under << 1, power + 1);
+    }
+    let nearest = nearest_even(over, under) as f64 * 2f64.powi(power);
+    front(vec![if top < 0 { -nearest } else { nearest }.to_bits()])
+}
+
+fn word(objects: &BTreeSet<usize>) -> u64 {
+    objects.iter().map(|object| 1 << object).sum()
+}
+
+fn words(blocks: &[Block]) -> Vec<u64> {
+    blocks.iter().flat_map(|block| [word(&block.left), word(&block.right)]).collect()
+}
+
+/// A pair table as it is handed back: 50 by 50.
+fn table(pairs: Vec<Vec<i128>>) -> Left {
+    let count = |i: usize, j: usize| pairs.get(i).and_then(|row| row.get(j)).copied().unwrap_or(0);
+    whole(&(0..2500).map(|entry| count(entry / 50, entry % 50)).collect::<Vec<_>>())
+}
+
+fn totals(asked: &Asked) -> Vec<i128> {
+    totals_of(asked.head.objects(), asked.blocks(), &asked.wide_readings())
+}
+
+fn squares(numbers: &[i128]) -> Left {
+    whole(&[numbers.iter().map(|number| number * number).sum()])
+}
+
+fn parameters(head: &Head, blocks: &[Block], balance: &Balance) -> [i128; 6] {
+    let sizes = [head.objects(), blocks.len(), blocks[0].left.len()].map(|size| size as i128);
+    [sizes[0], sizes[1], balance.appearances, sizes[2], balance.company, balance.opposition]
+}
+
+fn spread(results: &Results) -> [i128; 5] {
+    [results.q, results.deviation_denominator, results.freedom, results.spread.unwrap_or(0), results.spread.is_some().into()]
+}
+
+fn everything(Solved { job, results }: &Solved) -> Vec<Left> {
+    let answer = [&parameters(&job.head, &job.blocks, &job.balance)[..], &[results.denominator], &spread(results)].concat();
+    vec![front(words(&job.blocks)), whole(&results.numerators), whole(&results.deviations), whole(&answer), real(results.spread.unwrap_or(0), 100)]
+}
+
+fn text(bytes: Vec<u8>) -> Vec<Left> {
+    let length = bytes.len() as u64;
+    vec![front(bytes.into_iter().map(u64::from).collect()), front(vec![length])]
+}
+
+/// Rooms and slots by their names in hosts/bench.h.
+struct Lent(Vec<Room>);
+
+/// A room: `length` entries of `width` bytes, with words before and behind it that are not lent.
+struct Room {
+    name: &'static str,
+    width: usize,
+    length: usize,
+    memory: Vec<u64>,
+}
+
+const MARGIN: usize = 4;
+
+impl Room {
+    /// A room in which no two entries are alike, and hardly one like an answer.
+    fn untouched(name: &'static str, length: usize) -> Room {
+        let width = if name == "out" { 1 } else { 8 };
+        let words = 2 * MARGIN + (length * width).div_ceil(8);
+        Room { name, width, length, memory: (1..=words as u64).map(|place| place.wrapping_mul(0x9E37_79B9_7F4A_7C15)).collect() }
+    }
+
+    /// The room with what a call is to leave in it.
+    fn holding(&self, left: &Left) -> Vec<u64> {
+        let mut memory = self.memory.clone();
+        for (place, entry) in (left.from..).zip(&left.entries) {
+            let place = MARGIN * 8 + place * self.width;
+            let mut bytes = memory[place / 8].to_ne_bytes();
+            bytes[place % 8..place % 8 + self.width].copy_from_slice(&entry.to_le_bytes()[..self.width]);
+            memory[place / 8] = u64::from_ne_bytes(bytes);
+        }
+        memory
+    }
+}
+
+impl Lent {
+    fn room(&mut self, name: &str) -> &mut Room {
+        self.0.iter_mut().find(|room| room.name == name).expect("a room that the call is lent")
+    }
+
+    fn start(&mut self, name: &str) -> *mut c_void {
+        self.room(name).memory.as_mut_ptr().wrapping_add(MARGIN).cast()
+    }
+
+    fn length(&mut self, name: &str) -> usize {
+        self.room(name).length
+    }
+}
+
+/// How often a call was compared: accepted, by number 0, and refused, by number and the test that refuses. And how often it differed.
+#[derive(Default)]
+struct Tally {
+    alike: BTreeMap<(u8, Option<Test>), u64>,
+    differing: u64,
+}
+
+impl Call {
+    fn makes(&self, test: Test) -> bool {
+        self.tests.concat().contains(&test)
+    }
+
+    /// The first test, in their order, that refuses.
+    fn refusal(&self, asked: &Asked) -> Option<(Test, Refusal)> {
+        ORDER.iter().filter(|(test, ..)| self.makes(*test)).find_map(|(test, _, look)| Some((*test, look(asked)?)))
+    }
+
+    /// Makes the call with rooms of several lengths: of all kinds, or where it is tried often, of two.
+    fn compare(&self, asked: &Asked, often: bool, seed: &mut Seed, spoiled: bool, tally: &mut Tally) {
+        let refusal = self.refusal(asked);
+        let left = if refusal.is_none() { (self.answer)(asked) } else { vec![] };
+        let mut kinds = self.lengths(&left, seed);
+        if often && kinds.len() > 2 {
+            let other = 1 + seed.below(kinds.len() - 1);
+            kinds = vec![kinds[0].clone(), kinds[other].clone()];
+        }
+        for lengths in kinds {
+            let short = left.iter().zip(&lengths).any(|(room, length)| *length < room.asked);
+            let (number, test, place) = match refusal {
+                Some((test, Refusal { number, place })) => (number, Some(test), place),
+                None => (if short { 10 } else { 0 }, None, 0),
+            };
+            let returned = u64::from(number) + ((place as u64) << 16);
+            let found = self.difference(asked, &lengths, returned, if number == 0 { &left } else { &[] }, if spoiled { Some(seed) } else { None });
+            if found.is_some() == spoiled {
+                *tally.alike.entry((number, test)).or_insert(0) += 1;
+                continue;
+            }
+            tally.differing += 1;
+            if tally.differing <= 3 {
+                let found = found.unwrap_or("a bit turned in what is expected is not seen".to_string());
+                println!("{}, {}, number {}, place {}, rooms of {lengths:?}: {found}", self.name, asked.about, asked.number, asked.place);
+            }
+        }
+    }
+
+    /// The lengths of the rooms that are tried, those that are asked for first.
+    fn lengths(&self, left: &[Left], seed: &mut Seed) -> Vec<Vec<usize>> {
+        if self.rooms.is_empty() {
+            return vec![vec![]];
+        }
+        if left.is_empty() {
+            return vec![vec![2600; self.rooms.len()], vec![0; self.rooms.len()]];
+        }
+        let asked: Vec<usize> = left.iter().map(|room| room.asked).collect();
+        let mut all = vec![asked.clone(), asked.iter().map(|length| length + 1 + seed.below(9)).collect()];
+        for short in 0..asked.len() {
+            let mut lengths = asked.clone();
+            lengths[short] = if seed.once_in(3) { seed.below(asked[short]) } else { asked[short] - 1 };
+            all.push(lengths);
+        }
+        all
+    }
+
+    /// Makes the call, and tells where what it returns and leaves is not what is expected; one bit of that is turned first, where a seed is given for it.
+    fn difference(&self, asked: &Asked, lengths: &[usize], returned: u64, left: &[Left], spoil: Option<&mut Seed>) -> Option<String> {
+        let mut lent = Lent(self.rooms.iter().zip(lengths).map(|(name, length)| Room::untouched(name, *length)).collect());
+        let mut expected = vec![vec![returned]];
+        expected.extend(lent.0.iter().enumerate().map(|(index, room)| left.get(index).map_or(room.memory.clone(), |left| room.holding(left))));
+        if let Some(seed) = spoil {
+            let room = seed.below(expected.len());
+            let place = seed.below(expected[room].len());
+            expected[room][place] ^= 1 << seed.below(64);
+        }
+        let found = (self.made)(asked, &mut lent);
+        if found != expected[0][0] {
+            let shown = |returned: u64| format!("{} at {} (index {})", returned & 255, returned >> 16, returned >> 8 & 255);
+            return Some(format!("it returns {}, the count {}", shown(found), shown(expected[0][0])));
+        }
+        lent.0.iter().zip(&expected[1..]).find_map(|(room, wanted)| {
+            let place = room.memory.iter().zip(wanted).position(|(found, wanted)| found != wanted)?;
+            let entry = (place as i64 - MARGIN as i64) * 8 / room.width as i64;
+            Some(format!("{}, from entry {entry} on: {:x}, the count's {:x}", room.name, room.memory[place], wanted[place]))
+        })
+    }
+
+    /// What must have been compared: an acceptance, and a refusal by each number of each test and, where there are rooms, by 10.
+    fn never_compared(&self, tally: &Tally) -> Vec<(u8, Option<Test>)> {
+        let tests = ORDER.iter().filter(|(test, ..)| self.makes(*test));
+        let refusals = tests.flat_map(|(test, numbers, _)| numbers.iter().map(move |number| (*number, Some(*test))));
+        let rooms = if self.rooms.is_empty() { None } else { Some((10, None)) };
+        refusals.chain([(0, None)]).chain(rooms).filter(|kind| !tally.alike.contains_key(kind)).collect()
+    }
+
+    /// The line of a call, and whether it passed.
+    fn told(&self, tally: &Tally) -> bool {
+        let mut numbers = BTreeMap::new();
+        tally.alike.iter().for_each(|((number, _), count)| *numbers.entry(*number).or_insert(0) += count);
+        let accepted = numbers.remove(&0).unwrap_or(0);
+        let refused: Vec<String> = numbers.iter().map(|(number, count)| format!("{count} by {number}")).collect();
+        println!("{}: {accepted} accepted, {} refused ({})", self.name, numbers.values().sum::<u64>(), refused.join(", "));
+        let never = self.never_compared(tally);
+        if !never.is_empty() {
+            println!("{}: never compared, as (number, test): {never:?}", self.name);
+        }
+        if tally.differing > 0 {
+            println!("{}: {} differ", self.name, tally.differing);
+        }
+        tally.differing == 0 && never.is_empty()
+    }
+}
+
+/// The calls that hosts/bench.h declares: each must have its row.
+fn declared() -> Vec<&'static str> {
+    include_str!("../../hosts/bench.h").lines().filter_map(|line| line.strip_prefix("uint64_t ")?.split('(').next()).collect()
+}
+
+/// The jobs: example D at every bound; the stored ones, by their parts where they are accepted; seeded ones. Every second of these two is harmed once more.
+fn jobs(seed: u64, count: u64) -> impl Iterator<Item = Asked> {
+    let stored = stored::trials();
+    let file = stored.iter().find(|example| example.name == "D.job").expect("example D").bytes.clone();
+    let whole = || Asked::new("D".to_string(), parts_of(&file).expect("D is accepted"), file.clone());
+    let bounds = at_bounds(whole);
+    let others = stored.into_iter().map(Some).chain((0..count).map(|_| None)).zip(0..).map(move |(example, index)| {
+        let parts = damage::parts(seed, index);
+        let about = format!("job {seed} {index} ({})", parts.about);
+        let mut asked = match example {
+            Some(example) => Asked::new(format!("{about}, {}", example.name), parts_of(&example.bytes).unwrap_or(parts.draft), example.bytes),
+            None => Asked::new(about, parts.draft, damage::seeded(seed, index).bytes),
+        };
+        if index % 2 == 1 {
+            harm(&mut asked, &mut Seed::new(seed + 1, index));
+        }
+        asked
+    });
+    bounds.into_iter().chain(others)
+}
+
+/// All calls on one job.
+fn compare_all(asked: &mut Asked, seed: &mut Seed, spoiled: bool, tallies: &mut [Tally]) {
+    for (call, tally) in CALLS.iter().zip(tallies) {
+        if call.makes(Test::Field) {
+            for place in places(asked) {
+                look_for_field(asked, place, seed);
+                call.compare(asked, true, seed, spoiled, tally);
+            }
+        } else if [Test::InitialBlock, Test::Object, Test::Block].iter().any(|test| call.makes(*test)) {
+            for number in numbers(asked, seed) {
+                asked.number = number;
+                call.compare(asked, true, seed, spoiled, tally);
+            }
+        } else {
+            call.compare(asked, false, seed, spoiled, tally);
+        }
+    }
+}
+
+fn main() -> ExitCode {
+    let words: Vec<String> = std::env::args().skip(1).collect();
+    let (numbers, spoiled) = match words.split_last() {
+        Some((last, numbers)) if last == "spoiled" => (numbers, true),
+        _ => (&words[..], false),
+    };
+    let [Some(seed), Some(count)] = numbers.iter().map(|word| word.parse().ok()).collect::<Vec<Option<u64>>>()[..] else {
+        eprintln!("usage: calls SEED COUNT [spoiled], two whole numbers");
+        return ExitCode::from(2);
+    };
+    if spoiled {
+        println!("a bit of what is expected is turned in each comparison; what is told is what was seen:");
+    }
+    let mut tallies: Vec<Tally> = CALLS.iter().map(|_| Tally::default()).collect();
+    let mut changed = 0;
+    for (mut asked, index) in jobs(seed, count).zip(0..) {
+        let lent = (asked.objects.clone(), asked.readings.clone(), asked.bytes.clone());
+        compare_all(&mut asked, &mut Seed::new(seed + 2, index), spoiled, &mut tallies);
+        changed += u64::from(lent != (asked.objects, asked.readings, asked.bytes));
+    }
+    let passed = CALLS.iter().zip(&tallies).filter(|(call, tally)| call.told(tally)).count();
+    let mut failed = CALLS.len() - passed;
+    let rows: Vec<&str> = CALLS.iter().map(|call| call.name).collect();
+    if declared() != rows {
+        failed += 1;
+        println!("hosts/bench.h declares {:?}", declared());
+    }
+    if changed > 0 {
+        failed += 1;
+        println!("on {changed} jobs a call changed what it was lent to read");
+    }
+    println!("{passed} passed, {failed} failed");
+    if failed == 0 {
+        ExitCode::SUCCESS
+    } else {
+        ExitCode::FAILURE
+    }
+}

@@ -2,7 +2,7 @@
 
 use crate::compare::HEADS;
 use crate::design::{balance, develop, Balance, Block};
-use crate::job::{self, first_far, first_unclean, is_restraint, members, Cursor, Draft, Head, Job, Refusal};
+use crate::job::{self, first_far, first_unclean, is_restraint, members, Cursor, Draft, Head, Job, Refusal, READING_LIMIT, SUM_LIMIT};
 use crate::seed::Seed;
 use crate::solve::{solve, Results};
 use std::cell::OnceCell;
@@ -144,15 +144,29 @@ fn at(number: u8, place: Option<usize>) -> Option<Refusal> {
 /// What is added to a size: it leaves the byte then, and its double, or its sum or product with another, wraps.
 const FAR: [usize; 7] = [1 << 8, 1 << 16, 1 << 32, 1 << 58, 1 << 62, 1 << 63, usize::MAX];
 
-/// Heads at both sides of every bound, and a whole one with each of its sizes far past a byte.
-pub fn heads(whole: Head) -> Vec<Head> {
-    let head = |[n, flag, p, m]: [usize; 4]| Head { n, flag, p, m };
-    let mut all: Vec<Head> = HEADS.iter().map(|sizes| head(sizes.map(usize::from))).collect();
+/// A whole job with one thing at or past its bound: heads at both sides of every bound, its own sizes far past a byte, sets, sums, readings.
+pub fn at_bounds(whole: impl Fn() -> Asked) -> Vec<Asked> {
+    let Asked { head: Head { n, flag, p, m }, .. } = whole();
+    let mut heads: Vec<[usize; 4]> = HEADS.iter().map(|sizes| sizes.map(usize::from)).collect();
     for (size, far) in (0..4).flat_map(|size| FAR.map(|far| (size, far))) {
-        let mut sizes = [whole.n, whole.flag, whole.p, whole.m];
+        let mut sizes = [n, flag, p, m];
         sizes[size] = sizes[size].wrapping_add(far);
-        all.push(head(sizes));
+        heads.push(sizes);
     }
+    let mut all: Vec<Asked> = Vec::new();
+    let mut add = |change: &dyn Fn(&mut Asked)| {
+        let mut asked = whole();
+        change(&mut asked);
+        asked.about = format!("{} with {:?}, set {:x}, sum {}, last reading {:?}", asked.about, asked.head, asked.set, asked.sum, asked.readings.last());
+        asked.bytes = asked.written();
+        all.push(asked);
+    };
+    heads.iter().for_each(|[n, flag, p, m]| add(&|asked| asked.head = Head { n: *n, flag: *flag, p: *p, m: *m }));
+    [0, 1 << (n + flag - 1), 1 << (n + flag), 1 << 63, u64::MAX].iter().for_each(|set| add(&|asked| asked.set = *set));
+    let (sum, reading) = (SUM_LIMIT as i64, READING_LIMIT as i32);
+    [sum, -sum, sum + 1, -sum - 1, i64::MIN, i64::MAX].iter().for_each(|sum| add(&|asked| asked.sum = *sum));
+    let far = [reading, -reading, reading + 1, -reading - 1, i32::MIN, i32::MAX];
+    far.iter().for_each(|reading| add(&|asked| asked.readings.iter_mut().last().into_iter().for_each(|last| *last = *reading)));
     all
 }
 

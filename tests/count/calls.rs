@@ -2,7 +2,7 @@
 //!
 //! The calls are made as a program in C makes them. Built by `hosts/test`, which links the bench's archive:
 //!
-//!     calls SEED COUNT            every call of hosts/bench.h on COUNT seeded jobs and on every stored one, by their parts and as files, whole and damaged
+//!     calls SEED COUNT            every call of hosts/bench.h on a job at every bound, every stored one and COUNT seeded ones, by their parts and as files
 //!     calls SEED COUNT spoiled    the same, but one bit of what the count expects is turned in each comparison, and each must see it
 //!
 //! A call that the count accepts is lent rooms of just the length that it asks for, longer ones, and each room in turn too short, which is refused by 10. One
@@ -26,7 +26,7 @@ mod seed;
 mod solve;
 mod stored;
 
-use asked::{harm, heads, look_for_field, numbers, places, Asked, Solved, Test, ORDER};
+use asked::{at_bounds, harm, look_for_field, numbers, places, Asked, Solved, Test, ORDER};
 use design::{pairs, Balance, Block};
 use job::{Head, Refusal};
 use parts::parts_of;
@@ -399,16 +399,12 @@ fn declared() -> Vec<&'static str> {
     include_str!("../../hosts/bench.h").lines().filter_map(|line| line.strip_prefix("uint64_t ")?.split('(').next()).collect()
 }
 
-/// The jobs: example D under many heads; the stored ones, by their parts where they are accepted; seeded ones. Every second of these two is harmed once more.
+/// The jobs: example D at every bound; the stored ones, by their parts where they are accepted; seeded ones. Every second of these two is harmed once more.
 fn jobs(seed: u64, count: u64) -> impl Iterator<Item = Asked> {
     let stored = stored::trials();
     let file = stored.iter().find(|example| example.name == "D.job").expect("example D").bytes.clone();
-    let whole = move || Asked::new("D".to_string(), parts_of(&file).expect("D is accepted"), file.clone());
-    let bounds = heads(whole().head).into_iter().map(move |head| {
-        let mut asked = whole();
-        (asked.head, asked.about) = (head, format!("D under {head:?}"));
-        asked
-    });
+    let whole = || Asked::new("D".to_string(), parts_of(&file).expect("D is accepted"), file.clone());
+    let bounds = at_bounds(whole);
     let others = stored.into_iter().map(Some).chain((0..count).map(|_| None)).zip(0..).map(move |(example, index)| {
         let parts = damage::parts(seed, index);
         let about = format!("job {seed} {index} ({})", parts.about);
@@ -421,7 +417,7 @@ fn jobs(seed: u64, count: u64) -> impl Iterator<Item = Asked> {
         }
         asked
     });
-    bounds.chain(others)
+    bounds.into_iter().chain(others)
 }
 
 /// All calls on one job.

@@ -13,6 +13,12 @@ use Rattle.analysis.proofs.deviations.deviations.Reads as deviations-re
 use Rattle.analysis.proofs.deviations.deviation_of as deviation-of
 use Rattle.analysis.proofs.deviations.deviation_of.Kinds as deviation-of-kinds
 use Rattle.analysis.proofs.deviations.deviation_of.Reads as deviation-of-reads
+use Rattle.analysis.proofs.publishing.published as published
+use Rattle.analysis.proofs.publishing.published.Kinds as published-kinds
+use Rattle.analysis.proofs.publishing.published.Reads as published-reads
+use Rattle.analysis.proofs.publishing.column as column
+use Rattle.analysis.proofs.publishing.column.Kinds as column-kinds
+use Rattle.analysis.proofs.publishing.column.Reads as column-reads
 use Rattle.analysis.proofs.spread.q as q
 use Rattle.analysis.proofs.spread.q.Kinds as q-kinds
 use Rattle.analysis.proofs.spread.q.Reads as q-reads
@@ -43,6 +49,21 @@ module _ (κs : Lfts 2) (a : ArgsD deviation-of.signature κs) (r q : ResD devia
   pub deviation-of-determined : deviation-of-reads.Post κs a r s → deviation-of-reads.Post κs a q t →
       r ≡ q
   deviation-of-determined p e = p ∙ sym e
+
+-- `published`: the answer, `hundredths`
+module _ (κs : Lfts 3) (a : ArgsD published.signature κs) (r q : ResD published.signature κs)
+    (s t : AtExit (endedOf 3 published-kinds.ps published-kinds.r) κs) where
+  pub published-determined : published-reads.Post κs a r s → published-reads.Post κs a q t →
+      (r ≡ q)
+      × (now (s .1 .1 .1 .1 .1 .0) ≡ now (t .1 .1 .1 .1 .1 .0))
+  published-determined p e = (p .0 ∙ sym (e .0), p .1 ∙ sym (e .1))
+
+-- `column`: the answer
+module _ (κs : Lfts 1) (a : ArgsD column.signature κs) (r q : ResD column.signature κs)
+    (s t : AtExit (endedOf 1 column-kinds.ps column-kinds.r) κs) where
+  pub column-determined : column-reads.Post κs a r s → column-reads.Post κs a q t →
+      r ≡ q
+  column-determined p e = p ∙ sym e
 
 -- `q`: the answer
 module _ (κs : Lfts 2) (a : ArgsD q.signature κs) (r q : ResD q.signature κs)

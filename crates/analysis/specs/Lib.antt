@@ -1,2 +1,3 @@
--- What is worked out from totals and words.
+-- What is worked out from totals and words, and the published column.
 pub mod Worked
+pub mod Column

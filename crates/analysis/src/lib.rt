@@ -1,6 +1,7 @@
-// A job worked out. The face: everything at once; in `values` the values or one of them; in `deviations` the deviations or one of them; in `spread` Q
-// and the spread.
+// A job worked out. The face: everything at once; in `values` the values or one of them; in `publishing` the published hundredths; in `deviations` the
+// deviations or one of them; in `spread` Q and the spread.
 pub mod deviations;
+pub mod publishing;
 pub mod spread;
 pub mod values;
 mod whole;

@@ -1,4 +1,5 @@
 // The values of a job: all numerators into lent room, or one object's Value.
+use crate::publishing::column;
 use crate::whole::analyse;
 use arithmetic::value_from;
 use design::objects;
@@ -83,7 +84,8 @@ pub fn value_of(
     if is_refused(verdict) {
         return no_value(verdict);
     }
-    let value = value_from(values[object], solved.denominator);
+    let column = column(&values, solved.denominator, set);
+    let value = value_from(values[object], solved.denominator, column[object]);
     ObjectValue {
         verdict: Verdict::Accepted,
         value,

@@ -61,6 +61,9 @@ use Rattle.api.proofs.jobs.bench_values.Reads as bench-values-reads
 use Rattle.api.proofs.jobs.bench_value_of as bench-value-of
 use Rattle.api.proofs.jobs.bench_value_of.Kinds as bench-value-of-kinds
 use Rattle.api.proofs.jobs.bench_value_of.Reads as bench-value-of-reads
+use Rattle.api.proofs.jobs.bench_published as bench-published
+use Rattle.api.proofs.jobs.bench_published.Kinds as bench-published-kinds
+use Rattle.api.proofs.jobs.bench_published.Reads as bench-published-reads
 use Rattle.api.proofs.jobs.bench_analyse as bench-analyse
 use Rattle.api.proofs.jobs.bench_analyse.Kinds as bench-analyse-kinds
 use Rattle.api.proofs.jobs.bench_analyse.Reads as bench-analyse-reads
@@ -233,6 +236,14 @@ module _ (κs : Lfts 5) (a : ArgsD bench-value-of.signature κs) (r q : ResD ben
       × (now (s .1 .1 .1 .1 .1 .1 .1 .1 .1 .1 .0) ≡ now (t .1 .1 .1 .1 .1 .1 .1 .1 .1 .1 .0))
       × (now (s .1 .1 .1 .1 .1 .1 .1 .1 .1 .1 .1 .0) ≡ now (t .1 .1 .1 .1 .1 .1 .1 .1 .1 .1 .1 .0))
   bench-value-of-determined p e = (p .0 ∙ sym (e .0), p .1 .0 ∙ sym (e .1 .0), p .1 .1 .0 ∙ sym (e .1 .1 .0), p .1 .1 .1 ∙ sym (e .1 .1 .1))
+
+-- `bench_published`: the answer, `hundredths`
+module _ (κs : Lfts 3) (a : ArgsD bench-published.signature κs) (r q : ResD bench-published.signature κs)
+    (s t : AtExit (endedOf 3 bench-published-kinds.ps bench-published-kinds.r) κs) where
+  pub bench-published-determined : bench-published-reads.Post κs a r s → bench-published-reads.Post κs a q t →
+      (r ≡ q)
+      × (now (s .1 .1 .1 .1 .1 .1 .1 .1 .0) ≡ now (t .1 .1 .1 .1 .1 .1 .1 .1 .0))
+  bench-published-determined p e = (p .0 ∙ sym (e .0), p .1 ∙ sym (e .1))
 
 -- `bench_analyse`: the answer, `words`, `values`, `deviations`, `answer`, `real`
 module _ (κs : Lfts 7) (a : ArgsD bench-analyse.signature κs) (r q : ResD bench-analyse.signature κs)

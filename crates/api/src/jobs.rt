@@ -1,5 +1,6 @@
-// Calls on whole jobs: their tests, the values of all objects and of one, and everything at once.
+// Calls on whole jobs: their tests, the values of all objects and of one, the published column, and everything at once.
 use analysis::analyse;
+use analysis::publishing::published;
 use analysis::values::value_of;
 use analysis::values::values as numerators;
 use judging::refusal;
@@ -12,7 +13,7 @@ use slots::with_room;
 use verdicts::is_refused;
 ghost use mathlib.Core.Path.{_≡_};
 ghost use lib.ListN.{length};
-ghost use Rattle.meaning.specs.Calls.{jobVerdict, valuesVerdict, valueAnswer};
+ghost use Rattle.meaning.specs.Calls.{jobVerdict, valuesVerdict, publishedAfter, valueAnswer};
 ghost use Rattle.slots.specs.Told.{told};
 ghost use Rattle.slots.specs.Answers.{valueCall, valueSigned, valueLaid, valueReal, solvedLaid, solvedReal};
 ghost use Rattle.api.specs.Heads.{headFrom};
@@ -89,6 +90,27 @@ pub extern "C" fn bench_value_of(
         answer,
         real,
     )
+}
+
+// The published hundredths of all objects.
+#[no_mangle]
+pub extern "C" fn bench_published(
+    n: usize,
+    flag: usize,
+    p: usize,
+    m: usize,
+    blocks: &[u8],
+    readings: &[i32],
+    set: u64,
+    sum: i64,
+    hundredths: &mut [i64],
+) -> u64
+    ensures { λ r. ⌜ r ≡ told (valuesVerdict (headFrom n flag p m) (now (blocks .entry)) (now (readings .entry)) set sum (length (now (hundredths .entry)))) ⌝ }
+    ensures { λ _. ⌜ now (hundredths .exit) ≡ publishedAfter (headFrom n flag p m) (now (blocks .entry)) (now (readings .entry)) set sum
+        (now (hundredths .entry)) ⌝ }
+{
+    let head = Head { n, flag, p, m };
+    told(published(head, blocks, readings, set, sum, hundredths))
 }
 
 // Everything at once: words, values and deviations into their rooms. Where the slots are too few the tests alone are made, and nothing is written.

@@ -15,6 +15,12 @@ use Rattle.arithmetic.proofs.quotient.size.Reads as size-reads
 use Rattle.arithmetic.proofs.rounding.hundredths as hundredths
 use Rattle.arithmetic.proofs.rounding.hundredths.Kinds as hundredths-kinds
 use Rattle.arithmetic.proofs.rounding.hundredths.Reads as hundredths-reads
+use Rattle.arithmetic.proofs.rounding.hundredths_below as hundredths-below
+use Rattle.arithmetic.proofs.rounding.hundredths_below.Kinds as hundredths-below-kinds
+use Rattle.arithmetic.proofs.rounding.hundredths_below.Reads as hundredths-below-reads
+use Rattle.arithmetic.proofs.rounding.hundredths_part as hundredths-part
+use Rattle.arithmetic.proofs.rounding.hundredths_part.Kinds as hundredths-part-kinds
+use Rattle.arithmetic.proofs.rounding.hundredths_part.Reads as hundredths-part-reads
 use Rattle.arithmetic.proofs.spread.spread_from as spread-from
 use Rattle.arithmetic.proofs.spread.spread_from.Kinds as spread-from-kinds
 use Rattle.arithmetic.proofs.spread.spread_from.Reads as spread-from-reads
@@ -39,6 +45,20 @@ module _ (κs : Lfts 0) (a : ArgsD hundredths.signature κs) (r q : ResD hundred
   pub hundredths-determined : hundredths-reads.Post κs a r s → hundredths-reads.Post κs a q t →
       r ≡ q
   hundredths-determined p e = p ∙ sym e
+
+-- `hundredths_below`: the answer
+module _ (κs : Lfts 0) (a : ArgsD hundredths-below.signature κs) (r q : ResD hundredths-below.signature κs)
+    (s t : AtExit (endedOf 0 hundredths-below-kinds.ps hundredths-below-kinds.r) κs) where
+  pub hundredths-below-determined : hundredths-below-reads.Post κs a r s → hundredths-below-reads.Post κs a q t →
+      r ≡ q
+  hundredths-below-determined p e = p ∙ sym e
+
+-- `hundredths_part`: the answer
+module _ (κs : Lfts 0) (a : ArgsD hundredths-part.signature κs) (r q : ResD hundredths-part.signature κs)
+    (s t : AtExit (endedOf 0 hundredths-part-kinds.ps hundredths-part-kinds.r) κs) where
+  pub hundredths-part-determined : hundredths-part-reads.Post κs a r s → hundredths-part-reads.Post κs a q t →
+      r ≡ q
+  hundredths-part-determined p e = p ∙ sym e
 
 -- `spread_from`: the answer
 module _ (κs : Lfts 0) (a : ArgsD spread-from.signature κs) (r q : ResD spread-from.signature κs)

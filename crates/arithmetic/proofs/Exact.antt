@@ -1,16 +1,21 @@
 -- The exact range as facts, and what the two answers are inside it. Assumes nothing.
-use mathlib.Core.Path.{_≡_}
-use mathlib.Core.Bool.{true, false, _&&_}
-use Prim.Native.Nat.{ℕ, _^_, _≤_, _<_}
-use lib.IntN.{ℤ, natAbs}
+use mathlib.Core.Path.{_≡_, refl, sym, ap}
+use mathlib.Core.Bool.{Bool, true, false, cond, _&&_}
+use Prim.Native.Nat.{ℕ, _+_, _-_, _*_, _/_, _^_, _≤_, _<_}
+use native.Mathlib.Nat.{div-le-self}
+use native.Mathlib.Omega.{arith}
+use lib.IntN.{ℤ, pos, natAbs, _*ℤ_}
 use lib.Ieee.{Float}
 use lib.Dec.{ltb}
 use borrow.Author.Tests.{ltb-true, lt-ltb, le-ltb}
 use Rattle.algebra.proofs.Tests.{and-left, and-right, and-both, and-fails-left, and-fails-right}
-use Rattle.meaning.specs.Publishing.{nearestHundredths, float, Near}
+use Rattle.meaning.specs.Publishing.{minus, floor, part, nearestHundredths, float, Near}
+use Rattle.laws.proofs.Column.{part-less}
+use Rattle.laws.proofs.Rounding.{signed-size}
 use Rattle.records.specs.declared.Value.{Value}
-use Rattle.arithmetic.specs.Quotient.{exact, quotientOf, hundredthsOf, valueFrom}
+use Rattle.arithmetic.specs.Quotient.{exact, quotientOf, hundredthsOf, belowOf, partOf, liftedOf, valueFrom}
 use Rattle.arithmetic.proofs.Floats.{float-near}
+use Rattle.arithmetic.proofs.rounding.Signed.{floor-lifted}
 
 -- ---- the range
 
@@ -67,9 +72,46 @@ pub hundredths-is : (a : ℤ) (d : ℕ) → Exact a d → hundredthsOf a d ≡ n
 unfolding hundredthsOf
 hundredths-is a d x = rw (is-exact a d x)
 
+-- those at or below are the floor, and the part is what is above it
+pub below-is : (a : ℤ) (d : ℕ) → Exact a d → belowOf a d ≡ floor (pos 100 *ℤ a) d
+unfolding belowOf
+below-is a d x = rw (is-exact a d x)
+
+pub part-is : (a : ℤ) (d : ℕ) → Exact a d → partOf a d ≡ part (pos 100 *ℤ a) d
+unfolding partOf
+part-is a d x = rw (is-exact a d x)
+
+-- a part is below d, and 0 outside the range
+pub part-small : (a : ℤ) (d : ℕ) → partOf a d < 2 ^ 53
+unfolding partOf
+part-small a d = by (exact a d) refl
+  where
+    by : (t : Bool) → exact a d ≡ t → cond t (part (pos 100 *ℤ a) d) 0 < 2 ^ 53
+    by true e = let x = exact-is a d e in omega (arith, x .bottom, part-less (pos 100 *ℤ a) d (x .above))
+    by false e = omega arith
+
+-- the lifted size fits a signed number
+pub lifted-most : (a : ℤ) (d : ℕ) → Exact a d → liftedOf a d < 2 ^ 60
+lifted-most a d x = by (minus a)
+  where
+    by : (t : Bool) → cond t (100 * natAbs a + (d - 1)) (100 * natAbs a) < 2 ^ 60
+    by true = omega (arith, x)
+    by false = omega (arith, x)
+
+-- hundredths at or below are small
+pub below-small : (a : ℤ) (d : ℕ) → natAbs (belowOf a d) < 2 ^ 60
+unfolding belowOf
+below-small a d = by (exact a d) refl
+  where
+    by : (t : Bool) → exact a d ≡ t → natAbs (cond t (floor (pos 100 *ℤ a) d) (pos 0)) < 2 ^ 60
+    by true e =
+        let x = exact-is a d e in
+        omega (arith, ap natAbs (sym (floor-lifted a d (x .above))), signed-size (minus a) (liftedOf a d / d), lifted-most a d x, div-le-self (liftedOf a d) d)
+    by false e = omega arith
+
 -- ---- the value
 
 -- it is made from its parts
-pub value-is : (a : ℤ) (d : ℕ) (b k : ℤ) (x : Float) → b ≡ a → k ≡ hundredthsOf a d → x ≡ quotientOf a d
-    → _≡_ {A = Value} (record { numerator = b; denominator = d; hundredths = k; value = x }) (valueFrom a d)
-value-is a d b k x e g h = λ j. record { numerator = e j; denominator = d; hundredths = g j; value = h j }
+pub value-is : (a : ℤ) (d : ℕ) (k b : ℤ) (l : ℤ) (x : Float) → b ≡ a → l ≡ k → x ≡ quotientOf a d
+    → _≡_ {A = Value} (record { numerator = b; denominator = d; hundredths = l; value = x }) (valueFrom a d k)
+value-is a d k b l x e g h = λ j. record { numerator = e j; denominator = d; hundredths = g j; value = h j }

@@ -1,6 +1,5 @@
 // The one rounded f64 of a fraction, and the making of a Value. All are total: outside the exact range the f64 is 0.0. A refused value is 0 over 0,
 // made so; no other caller goes there.
-use crate::rounding::hundredths;
 use records::Value;
 ghost use mathlib.Core.Path.{_≡_};
 ghost use mathlib.Core.Bool.{true};
@@ -19,11 +18,10 @@ pub(crate) fn quotient(numerator: i64, denominator: u64) -> f64
     }
 }
 
-// A fraction with its hundredths and its f64. Every Value is made here.
-pub fn value_from(numerator: i64, denominator: u64) -> Value
-    ensures { λ r. ⌜ r ≡ valueFrom numerator denominator ⌝ }
+// A fraction with its published hundredths and its f64. Every Value is made here.
+pub fn value_from(numerator: i64, denominator: u64, hundredths: i64) -> Value
+    ensures { λ r. ⌜ r ≡ valueFrom numerator denominator hundredths ⌝ }
 {
-    let hundredths = hundredths(numerator, denominator);
     let value = quotient(numerator, denominator);
     Value {
         numerator,

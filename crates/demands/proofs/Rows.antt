@@ -13,7 +13,7 @@ use Rattle.records.specs.declared.Head.{Head}
 use Rattle.records.specs.declared.Verdict.{Verdict}
 use Rattle.meaning.specs.Design.{sized, occ, plus, left, right, company, opposition, balanced, beta}
 use Rattle.meaning.specs.Analysis.{total, members, restrained, numeratorOf, denominatorOf}
-use Rattle.meaning.specs.Publishing.{published}
+use Rattle.meaning.specs.Publishing.{rank, shortfall, published}
 use Rattle.meaning.specs.Fractions.{Fraction, _+ᶠ_, squared, summed, valuesAlong, deviationUnder, squaresUnder}
 use Rattle.meaning.specs.Refusals.{number, place, offender, farReading}
 use Rattle.algebra.specs.Buffers.{over as writtenOver}
@@ -27,7 +27,7 @@ use Rattle.demands.specs.Refusals.{four, threeBlocks, threeReadings, fiv
 use Rattle.demands.specs.Outcomes.{wordsAfter}
 use Rattle.demands.specs.Fractions.{distance, dividedBy, hundredths}
 use Rattle.demands.specs.Papers.{standardDeviationSquared}
-use Rattle.demands.specs.Demand3.{halfHundredth, excess}
+use Rattle.demands.specs.Demand3.{hundredth, halfHundredth, excess}
 
 -- a verdict with the number and the place that it has; two fractions that are one; one that is at most, and one that is below another; what a room holds
 pub data Row : Type 0 where
@@ -66,7 +66,7 @@ abbrev ys : List ℤ
 ys = pos 4 ∷ negsuc 2 ∷ pos 2 ∷ []
 
 -- three residues and ∞, {0},{1} and {0},{∞}, restraint 0 and 2, M 1: the values are 3/8, 7/8, 5/8, 5/8, so each is published just half a hundredth away, two
--- above and two below, and the published set's excess is all of beta·v²/40,000
+-- above and two below, and the published set's excess is a quarter of beta·v²/10,000
 abbrev halves : Job
 halves = job (head 3 1 1 2) (0 ∷ 1 ∷ 0 ∷ 255 ∷ []) (negsuc 0 ∷ pos 0 ∷ pos 0 ∷ pos 0 ∷ pos 0 ∷ pos 0 ∷ []) 5 (pos 1)
 
@@ -136,7 +136,11 @@ spreadRows =
     ∷ same (dividedBy 3 (over 1 2)) (over 1 6)
     ∷ []
 
--- ---- the third demand's two numbers, which halves reaches
+-- three residues, {0},{1}, all three in the restraint, M 1, readings of 0: each value is a third; 34, 33 and 33 hundredths add to 1
+abbrev thirds : Job
+thirds = three pair (pos 0 ∷ pos 0 ∷ pos 0 ∷ []) 7 (pos 1)
+
+-- ---- the third demand's numbers: halves reaches a half, a member of thirds is farther
 abbrev publishedRows : List Row
 publishedRows =
     same (distance (publishedOf halves 0) (exact halves 0)) halfHundredth
@@ -145,9 +149,16 @@ publishedRows =
     ∷ same (distance (publishedOf halves 3) (exact halves 3)) halfHundredth
     ∷ same halfHundredth (over 1 200)
     ∷ same (distance (over 1 2) (over 3 4)) (over 1 4)
-    ∷ same (excess halves) (over 1 2500)
-    ∷ same (squares halves (publishedOf halves)) (squares halves (exact halves) +ᶠ excess halves)
-    ∷ same (excess (jobIn fileA)) (over 1 1600)
+    ∷ same (publishedOf thirds 0) (over 34 100)
+    ∷ same (publishedOf thirds 1) (over 33 100)
+    ∷ same (publishedOf thirds 2) (over 33 100)
+    ∷ same (distance (publishedOf thirds 0) (exact thirds 0)) (over 2 300)
+    ∷ below (distance (publishedOf thirds 0) (exact thirds 0)) hundredth
+    ∷ below halfHundredth (distance (publishedOf thirds 0) (exact thirds 0))
+    ∷ same hundredth (over 1 100)
+    ∷ same (excess halves) (over 1 625)
+    ∷ same (squares halves (publishedOf halves)) (squares halves (exact halves) +ᶠ over 1 2500)
+    ∷ same (excess (jobIn fileA)) (over 1 400)
     ∷ []
 
 -- ---- every row holds
@@ -166,7 +177,7 @@ unfolding occ plus left right company opposition beta total members restrained n
 spread-rows = refl
 
 pub published-rows : every publishedRows ≡ true
-unfolding occ plus left right company opposition beta total members restrained numeratorOf denominatorOf published big numbersAt
+unfolding occ plus left right company opposition beta total members restrained numeratorOf denominatorOf rank shortfall published big numbersAt
     summed valuesAlong deviationUnder squaresUnder sum sumℕ
 published-rows = refl
 

@@ -143,15 +143,15 @@ module _ (h : Head) (d : List ℕ) (s : Sound h d) (e : balanced h d ≡ true) w
           (hundredths-least (blocks h) (objects h) (beta h d) (sign h d) (design-matrix h d s e) (reading y) some-objects
           (parameters h d s e .positive) w M t x)
 
-      -- hundredths that are at most a half away from the exact values have squares at most βv²/40,000 larger
+      -- hundredths that are at most one away from the exact values have squares at most βv²/10,000 larger
       pub hundredths-near : (x : ℕ → ℤ) →
-          ((i : ℕ) → i < objects h → natAbs (pos 2 *ℤ (pos 100 *ℤ numeratorOf h d y w M i -ℤ x i *ℤ pos (denominatorOf h d w))) ≤ denominatorOf h d w) →
-          (pos 4 *ℤ pos (vbeta h d) *ℤ squaresOver h d y (pos 100) x)
-          ≤ℤ (pos 40000 *ℤ pos (qOf h d y) +ℤ pos (beta h d * objects h * objects h) *ℤ pos (vbeta h d))
+          ((i : ℕ) → i < objects h → natAbs (pos 100 *ℤ numeratorOf h d y w M i -ℤ x i *ℤ pos (denominatorOf h d w)) ≤ denominatorOf h d w) →
+          (pos (vbeta h d) *ℤ squaresOver h d y (pos 100) x)
+          ≤ℤ (pos 10000 *ℤ pos (qOf h d y) +ℤ pos (beta h d * objects h * objects h) *ℤ pos (vbeta h d))
       unfolding numeratorOf denominatorOf squaredReadings squaredTotals total
       hundredths-near x near = subst₂ _≤ℤ_
-          (ap (λ z. pos 4 *ℤ pos (vbeta h d) *ℤ z) (sym (squares-signs h d s y (pos 100) x)))
-          (ap (λ z. pos 40000 *ℤ z +ℤ pos (beta h d * objects h * objects h) *ℤ pos (vbeta h d)) (sym q-nonneg))
+          (ap (λ z. pos (vbeta h d) *ℤ z) (sym (squares-signs h d s y (pos 100) x)))
+          (ap (λ z. pos 10000 *ℤ z +ℤ pos (beta h d * objects h * objects h) *ℤ pos (vbeta h d)) (sym q-nonneg))
           (hundredths-excess (blocks h) (objects h) (beta h d) (sign h d) (design-matrix h d s e) (reading y) some-objects
           (parameters h d s e .positive) w M t x near)
 

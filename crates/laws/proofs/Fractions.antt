@@ -4,7 +4,7 @@
 --     least              any others that keep it have larger squares
 --     exact-squares      the squares of the exact values are Q over vβ
 --     spread-cut         k hundredths against the squares of the exact values over the degrees of freedom
---     published-excess   those of the published values are no smaller, and at most βv²/40,000 larger
+--     published-excess   those of the published values are no smaller, and at most βv²/10,000 larger
 -- Assumes nothing.
 use mathlib.Core.Path.{_≡_, refl, sym, _∙_, ap, subst, subst₂}
 use mathlib.Core.Bool.{Bool, cond}
@@ -18,7 +18,7 @@ use lib.IntN.{ℤ, pos, negℤ, _+ℤ_, _-ℤ_, _*ℤ_}
 use lib.Signed.{_≤ℤ_, _<ℤ_}
 use borrow.Author.Tests.{eq-eqb, ne-eqb}
 use Rattle.algebra.specs.Ranges.{sum}
-use Rattle.algebra.proofs.Solver.{_⊕_, _⊗_, _⊝_, ⊖_, #, _≐_, ring₂, ring₃, ring₄, ring₅, ring₆, ring₇}
+use Rattle.algebra.proofs.Solver.{_⊕_, _⊗_, _⊝_, ⊖_, #, _≐_, ring₁, ring₂, ring₃, ring₄, ring₅, ring₆, ring₇}
 use Rattle.algebra.proofs.Order.{pos-≤, pos-nonneg, by-diff-<, ≤ℤ-*, <ℤ-*, *ℤ-cancel-l, comb₁, comb₂}
 use Rattle.records.specs.declared.Head.{Head}
 use Rattle.meaning.specs.Design.{objects, blocks, left, right, beta}
@@ -76,7 +76,8 @@ use Rattle.laws.proofs.Analysis.{
   job-members,
   job-denominator,
 }
-use Rattle.laws.proofs.Rounding.{published-near, spread-largest}
+use Rattle.laws.proofs.Rounding.{spread-largest}
+use Rattle.laws.proofs.Column.{job-near, job-adds-up}
 use Rattle.laws.proofs.Sizes.{q-in-range}
 
 -- ---- a fraction over a given denominator
@@ -428,32 +429,34 @@ module _ (h : Head) (d : List ℕ) (y : List ℤ) (w : ℕ) (M : ℤ) (e : jobVe
       most : (n c f q : ℕ) → 10000 * q < n * n * c * f → q * (100 * 100) < n * n * (c * f)
       most n c f q l = omega arith
 
+  -- the published values keep the restraint too: the column adds up
+  pub published-keeps : KeepsRestraint (objects h) w M (publishedValues h d y w M)
+  published-keeps = over-keeps 100 (objects h) w M (published h d y w M) (publishedValues h d y w M) (omega arith)
+      (λ i l. record { some = omega arith; same = refl })
+      (job-adds-up h d y w M j ∙ ring₁ (λ m. # 100 ⊗ m ≐ m ⊗ # 100) M refl)
+
   -- the published values over 100
   published-squares : Over (100 * 100) (squaresOver h d y (pos 100) (published h d y w M)) (squaresUnder h d y (publishedValues h d y w M))
   published-squares = over-squares h d s y 100 (published h d y w M) (publishedValues h d y w M) (λ i l. record { some = omega arith; same = refl })
 
-  -- the published values have squares no smaller than the exact ones, and at most βv²/40,000 larger
+  -- the published values have squares no smaller than the exact ones, and at most βv²/10,000 larger
   pub published-excess : (squaresUnder h d y (exactValues h d y w M) ≤ᶠ squaresUnder h d y (publishedValues h d y w M))
       × (squaresUnder h d y (publishedValues h d y w M) ≤ᶠ squaresUnder h d y (exactValues h d y w M)
-      +ᶠ record { top = pos (beta h d * objects h * objects h); bottom = 40000 })
-  unfolding published
+      +ᶠ record { top = pos (beta h d * objects h * objects h); bottom = 10000 })
   published-excess = (
     over-≤ (vbeta h d) (100 * 100) (pos (qOf h d y)) F X P some (omega arith) exact-over-vbeta published-squares
         (subst₂ _≤ℤ_ (ring₂ (λ q e. # 10000 ⊗ q ≐ q ⊗ (# 100 ⊗ # 100)) (pos (qOf h d y)) (pos 1) refl) (ring₂ (λ a f. a ⊗ f ≐ f ⊗ a) (pos (vbeta h d)) F refl)
         (hundredths-above h d s (j .measures .even) y w M (job-members h d y w M j) (published h d y w M))),
-    over-≤ (100 * 100) (vbeta h d * 40000) F (pos (qOf h d y) *ℤ pos 40000 +ℤ pos excess *ℤ pos (vbeta h d)) P (X +ᶠ Z) (omega arith)
+    over-≤ (100 * 100) (vbeta h d * 10000) F (pos (qOf h d y) *ℤ pos 10000 +ℤ pos excess *ℤ pos (vbeta h d)) P (X +ᶠ Z) (omega arith)
         (mul-pos some (omega arith)) published-squares
-        (over-+ (vbeta h d * 40000) (pos (qOf h d y) *ℤ pos 40000) (pos excess *ℤ pos (vbeta h d)) X Z
-        (over-more (vbeta h d) 40000 (pos (qOf h d y)) X exact-over-vbeta)
-        (record { some = omega arith; same = ring₂ (λ z c. z ⊗ (c ⊗ # 40000) ≐ z ⊗ c ⊗ # 40000) (pos excess) (pos (vbeta h d)) refl }))
+        (over-+ (vbeta h d * 10000) (pos (qOf h d y) *ℤ pos 10000) (pos excess *ℤ pos (vbeta h d)) X Z
+        (over-more (vbeta h d) 10000 (pos (qOf h d y)) X exact-over-vbeta)
+        (record { some = omega arith; same = ring₂ (λ z c. z ⊗ (c ⊗ # 10000) ≐ z ⊗ c ⊗ # 10000) (pos excess) (pos (vbeta h d)) refl }))
         (subst₂ _≤ℤ_
-        (ring₂ (λ c f. # 10000 ⊗ (# 4 ⊗ c ⊗ f) ≐ f ⊗ (c ⊗ (# 4 ⊗ (# 100 ⊗ # 100)))) (pos (vbeta h d)) F refl ∙ ap (λ (n : ℕ). F *ℤ pos (vbeta h d * n)) halves)
-        (ring₃ (λ q z c. # 10000 ⊗ (# 40000 ⊗ q ⊕ z ⊗ c) ≐ (q ⊗ (# 4 ⊗ (# 100 ⊗ # 100)) ⊕ z ⊗ c) ⊗ (# 100 ⊗ # 100)) (pos (qOf h d y)) (pos excess)
-        (pos (vbeta h d)) refl
-        ∙ ap (λ (n : ℕ). (pos (qOf h d y) *ℤ pos n +ℤ pos excess *ℤ pos (vbeta h d)) *ℤ pos (100 * 100)) halves)
+        (ring₂ (λ c f. # 10000 ⊗ (c ⊗ f) ≐ f ⊗ (c ⊗ # 10000)) (pos (vbeta h d)) F refl)
+        (ring₃ (λ q z c. # 10000 ⊗ (# 10000 ⊗ q ⊕ z ⊗ c) ≐ (q ⊗ # 10000 ⊕ z ⊗ c) ⊗ (# 100 ⊗ # 100)) (pos (qOf h d y)) (pos excess) (pos (vbeta h d)) refl)
         (≤ℤ-* (pos 10000) (pos-nonneg 10000)
-        (hundredths-near h d s (j .measures .even) y w M (job-members h d y w M j) (published h d y w M)
-        (λ i l. published-near (numeratorOf h d y w M i) (denominatorOf h d w) (job-denominator h d y w M j))))),
+        (hundredths-near h d s (j .measures .even) y w M (job-members h d y w M j) (published h d y w M) (λ i l. job-near h d y w M j i)))),
   )
     where
       X : Fraction
@@ -462,15 +465,11 @@ module _ (h : Head) (d : List ℕ) (y : List ℤ) (w : ℕ) (M : ℤ) (e : jobVe
       P : Fraction
       P = squaresUnder h d y (publishedValues h d y w M)
 
-      -- a half of a hundredth, squared, is a part in 40,000
-      halves : 4 * (100 * 100) ≡ 40000
-      halves = omega arith
-
       excess : ℕ
       excess = beta h d * objects h * objects h
 
       Z : Fraction
-      Z = record { top = pos excess; bottom = 40000 }
+      Z = record { top = pos excess; bottom = 10000 }
 
       F : ℤ
       F = squaresOver h d y (pos 100) (published h d y w M)

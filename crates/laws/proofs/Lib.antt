@@ -10,6 +10,7 @@ pub mod Matrix
 pub mod Solution
 pub mod Analysis
 pub mod Rounding
+pub mod Column
 pub mod Sizes
 pub mod Files
 pub mod Fractions

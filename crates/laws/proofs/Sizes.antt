@@ -43,7 +43,6 @@ use Rattle.meaning.specs.Analysis.{
   spreadHundredths,
   spreadHundredthsOf,
 }
-use Rattle.meaning.specs.Publishing.{minus, nearest, published}
 use Rattle.laws.proofs.Chains.{Sound, Readings}
 use Rattle.laws.proofs.Clean.{block-once}
 use Rattle.laws.proofs.Incidence.{block-size}
@@ -53,7 +52,7 @@ use Rattle.laws.proofs.Solution.{members-most}
 use Rattle.laws.proofs.Analysis.{q-nonneg, vbeta-some}
 use Rattle.meaning.specs.Refusals.{readingLimit, sumLimit}
 use Rattle.laws.specs.Limits.{totalLimit}
-use Rattle.laws.proofs.Rounding.{Nearest, nearest-is, signed-size, spread-largest}
+use Rattle.laws.proofs.Rounding.{spread-largest}
 
 -- ---- the parameters
 
@@ -160,20 +159,6 @@ module _ (h : Head) (d : List ℕ) (s : Sound h d) where
             restrained-most (objects h) w (omega arith),
             abs-*-le (pos (vbeta h d)) M 2600 sumLimit (vbeta-most h d s e) m,
           )
-
-      -- published hundredths
-      pub published-most : (w : ℕ) (M : ℤ) (i : ℕ) → 0 < denominatorOf h d w → natAbs M ≤ sumLimit → natAbs (published h d y w M i) ≤ 262600000000001
-      unfolding published
-      published-most w M i l m = most (100 * natAbs (numeratorOf h d y w M i)) (denominatorOf h d w) _ l (nearest-is _ (denominatorOf h d w) l)
-          (signed-size (minus (numeratorOf h d y w M i)) (nearest (100 * natAbs (numeratorOf h d y w M i)) (denominatorOf h d w)))
-          (omega (arith, numerator-most w M i m))
-        where
-          most : (a c n : ℕ) {x : ℕ} → 0 < c → Nearest a c n → x ≡ n → a ≤ 262600000000000 → x ≤ 262600000000001
-          most a c n l near e m = omega (arith, go (decLt (a + 1) n))
-            where
-              go : Dec (a + 1 < n) → n ≤ a + 1
-              go (yes o) = let o′ : a + 2 ≤ n = omega arith in omega (arith, near .below, mul-le-mul-right c o′, mul-le-mul-left a l)
-              go (no o) = omega arith
 
       -- a deviation's numerator
       pub deviation-most : (k : ℕ) → k < blocks h → natAbs (deviationOf h d y k) ≤ 13520000000

@@ -117,9 +117,9 @@ apart-values v β X y T w M k row = sym (ap (λ z. pos (bottom v β w) *ℤ y k 
 
 -- ---- arithmetic
 
--- 4 z² is at most D², where 2 z is at most D in size
-half-square : (z : ℤ) (D : ℕ) → natAbs (pos 2 *ℤ z) ≤ D → (pos 4 *ℤ sq z) ≤ℤ sq (pos D)
-half-square z D h = ≤ℤ-trans (≤ℤ-of-≡ (ring₁ (λ z. # 4 ⊗ (z ⊗ z) ≐ # 2 ⊗ z ⊗ (# 2 ⊗ z)) z refl ∙ square-size (pos 2 *ℤ z))) (pos-≤ _ _ (mul-le-mul h h))
+-- z² is at most D², where z is at most D in size
+size-square : (z : ℤ) (D : ℕ) → natAbs z ≤ D → sq z ≤ℤ sq (pos D)
+size-square z D h = ≤ℤ-trans (≤ℤ-of-≡ (square-size z)) (pos-≤ _ _ (mul-le-mul h h))
 
 -- a factor above 0 is struck out
 pub cancel-≤ : (n : ℕ) → 0 < n → (x z : ℤ) → (pos n *ℤ x) ≤ℤ (pos n *ℤ z) → x ≤ℤ z
@@ -223,7 +223,7 @@ module _ (b v β : ℕ) (X : ℕ → ℕ → ℤ) (m : Matrix b v β X) (y : ℕ
           ring₄ (λ a d n e. a ⊗ d ≐ (d ⊗ a ⊝ e ⊗ n) ⊕ n ⊗ e) (a i) D (N i) (pos e) refl ∙ ap (λ z. z +ℤ N i *ℤ pos e) o
           ∙ ring₁ (λ n. # 0 ⊕ n ≐ n) (N i *ℤ pos e) refl
 
-  -- hundredths, each at most a half away, have squares that are at most βv²/40,000 larger, and none smaller
+  -- hundredths, each at most one away, have squares that are at most βv²/10,000 larger, and none smaller
   module _ (v>0 : 0 < v) (w : ℕ) (M : ℤ) (x : ℕ → ℤ) where
     -- the denominator and the numerators of the values
     abbrev below : ℤ
@@ -257,31 +257,29 @@ module _ (b v β : ℕ) (X : ℕ → ℕ → ℤ) (m : Matrix b v β X) (y : ℕ
     not-less : (pos 10000 *ℤ squares b v X y (pos (bottom v β w)) (top v β w M (totals b X y))) ≤ℤ (sq (pos (bottom v β w)) *ℤ squares b v X y (pos 100) x)
     not-less = le-+ (sum-sq-nonneg b (fit v X apart-by)) (sym split)
 
-    -- and hardly larger, where each is at most a half away
-    rounding-cost : ((i : ℕ) → i < v → natAbs (pos 2 *ℤ (pos 100 *ℤ top v β w M (totals b X y) i -ℤ x i *ℤ pos (bottom v β w))) ≤ bottom v β w) →
-        (pos 4 *ℤ sq (pos (bottom v β w)) *ℤ squares b v X y (pos 100) x)
-        ≤ℤ (pos 40000 *ℤ squares b v X y (pos (bottom v β w)) (top v β w M (totals b X y)) +ℤ pos (β * v * v) *ℤ sq (pos (bottom v β w)))
-    rounding-cost near =
-        ≤ℤ-trans (≤ℤ-of-≡ (ring₂ (λ d f. # 4 ⊗ (d ⊗ d) ⊗ f ≐ # 4 ⊗ (d ⊗ d ⊗ f)) below hundredths refl ∙ ap (λ z. pos 4 *ℤ z) split
-        ∙ ring₂ (λ g w. # 4 ⊗ (# 10000 ⊗ g ⊕ w) ≐ # 40000 ⊗ g ⊕ # 4 ⊗ w) exact between refl)) (≤ℤ-+ (≤ℤ-refl (pos 40000 *ℤ exact)) cost)
+    -- and hardly larger, where each is at most one away
+    rounding-cost : ((i : ℕ) → i < v → natAbs (pos 100 *ℤ top v β w M (totals b X y) i -ℤ x i *ℤ pos (bottom v β w)) ≤ bottom v β w) →
+        (sq (pos (bottom v β w)) *ℤ squares b v X y (pos 100) x)
+        ≤ℤ (pos 10000 *ℤ squares b v X y (pos (bottom v β w)) (top v β w M (totals b X y)) +ℤ pos (β * v * v) *ℤ sq (pos (bottom v β w)))
+    rounding-cost near = ≤ℤ-trans (≤ℤ-of-≡ split) (≤ℤ-+ (≤ℤ-refl (pos 10000 *ℤ exact)) cost)
       where
         U : ℤ
         U = sum v (λ i. sq (apart-by i))
 
-        each : (i : ℕ) → i < v → (pos 4 *ℤ sq (apart-by i)) ≤ℤ sq below
+        each : (i : ℕ) → i < v → sq (apart-by i) ≤ℤ sq below
         each i l = ≤ℤ-trans (≤ℤ-of-≡ (ring₃
-            (λ d h n. # 4 ⊗ ((d ⊗ h ⊝ # 100 ⊗ n) ⊗ (d ⊗ h ⊝ # 100 ⊗ n)) ≐ # 4 ⊗ ((# 100 ⊗ n ⊝ h ⊗ d) ⊗ (# 100 ⊗ n ⊝ h ⊗ d))) below (x i) (above i) refl))
-            (half-square (pos 100 *ℤ above i -ℤ x i *ℤ below) (bottom v β w) (near i l))
+            (λ d h n. (d ⊗ h ⊝ # 100 ⊗ n) ⊗ (d ⊗ h ⊝ # 100 ⊗ n) ≐ (# 100 ⊗ n ⊝ h ⊗ d) ⊗ (# 100 ⊗ n ⊝ h ⊗ d)) below (x i) (above i) refl))
+            (size-square (pos 100 *ℤ above i -ℤ x i *ℤ below) (bottom v β w) (near i l))
 
-        every : (pos 4 *ℤ U) ≤ℤ (pos v *ℤ sq below)
-        every = ≤ℤ-trans (≤ℤ-of-≡ (sym (sum-scale v (pos 4) (λ i. sq (apart-by i))))) (sum-le-const v (sq below) (λ i. pos 4 *ℤ sq (apart-by i)) each)
+        every : U ≤ℤ (pos v *ℤ sq below)
+        every = sum-le-const v (sq below) (λ i. sq (apart-by i)) each
 
-        length : (pos 4 *ℤ between) ≤ℤ (pos (β * v) *ℤ (pos 4 *ℤ U))
-        length = le-+ {c = pos 4 *ℤ (pos β *ℤ sq (sum v apart-by))} (*ℤ-nonneg (pos-nonneg 4) (*ℤ-nonneg (pos-nonneg β) (sq-nonneg (sum v apart-by))))
-            (ap (λ z. pos 4 *ℤ z +ℤ pos 4 *ℤ (pos β *ℤ sq (sum v apart-by))) (fit-length b v β X m apart-by)
-            ∙ ring₄ (λ b v q s. # 4 ⊗ (b ⊗ v ⊗ q ⊝ b ⊗ s) ⊕ # 4 ⊗ (b ⊗ s) ≐ b ⊗ v ⊗ (# 4 ⊗ q)) (pos β) (pos v) U (sq (sum v apart-by)) refl)
+        length : between ≤ℤ (pos (β * v) *ℤ U)
+        length = le-+ {c = pos β *ℤ sq (sum v apart-by)} (*ℤ-nonneg (pos-nonneg β) (sq-nonneg (sum v apart-by)))
+            (ap (λ z. z +ℤ pos β *ℤ sq (sum v apart-by)) (fit-length b v β X m apart-by)
+            ∙ ring₄ (λ b v q s. (b ⊗ v ⊗ q ⊝ b ⊗ s) ⊕ b ⊗ s ≐ b ⊗ v ⊗ q) (pos β) (pos v) U (sq (sum v apart-by)) refl)
 
-        cost : (pos 4 *ℤ between) ≤ℤ (pos (β * v * v) *ℤ sq below)
+        cost : between ≤ℤ (pos (β * v * v) *ℤ sq below)
         cost = ≤ℤ-trans length (≤ℤ-trans (≤ℤ-* (pos (β * v)) (pos-nonneg (β * v)) every)
             (≤ℤ-of-≡ (ring₃ (λ b v d. b ⊗ v ⊗ (v ⊗ d) ≐ b ⊗ v ⊗ v ⊗ d) (pos β) (pos v) (sq below) refl)))
 
@@ -319,17 +317,17 @@ module _ (b v β : ℕ) (X : ℕ → ℕ → ℤ) (m : Matrix b v β X) (y : ℕ
         F : ℤ
         F = squares b v X y (pos 100) x
 
-    -- hundredths that are at most a half away from the values: 4 vβ times their squares is no more than 40,000 Q and βv² vβ
+    -- hundredths that are at most one away from the values: vβ times their squares is no more than 10,000 Q and βv² vβ
     pub hundredths-excess : (x : ℕ → ℤ) →
-        ((i : ℕ) → i < v → natAbs (pos 2 *ℤ (pos 100 *ℤ top v β w M (totals b X y) i -ℤ x i *ℤ pos (bottom v β w))) ≤ bottom v β w) →
-        (pos 4 *ℤ pos (v * β) *ℤ squares b v X y (pos 100) x) ≤ℤ (pos 40000 *ℤ Q-of +ℤ pos (β * v * v) *ℤ pos (v * β))
+        ((i : ℕ) → i < v → natAbs (pos 100 *ℤ top v β w M (totals b X y) i -ℤ x i *ℤ pos (bottom v β w)) ≤ bottom v β w) →
+        (pos (v * β) *ℤ squares b v X y (pos 100) x) ≤ℤ (pos 10000 *ℤ Q-of +ℤ pos (β * v * v) *ℤ pos (v * β))
     hundredths-excess x near =
-        cancel-≤ (members v w * members v w * (v * β)) factor (pos 4 *ℤ pos (v * β) *ℤ F) (pos 40000 *ℤ Q-of +ℤ pos (β * v * v) *ℤ pos (v * β))
+        cancel-≤ (members v w * members v w * (v * β)) factor (pos (v * β) *ℤ F) (pos 10000 *ℤ Q-of +ℤ pos (β * v * v) *ℤ pos (v * β))
         (subst₂ _≤ℤ_
-        (ring₄ (λ f t v b. # 4 ⊗ (t ⊗ (v ⊗ b) ⊗ (t ⊗ (v ⊗ b))) ⊗ f ≐ t ⊗ t ⊗ (v ⊗ b) ⊗ (# 4 ⊗ (v ⊗ b) ⊗ f)) F (pos (members v w)) (pos v) (pos β) refl)
-        (ap (λ z. pos 40000 *ℤ z +ℤ pos (β * v * v) *ℤ sq (pos (bottom v β w))) (squares-values w M)
-        ∙ ring₄ (λ t v b q. # 40000 ⊗ (t ⊗ t ⊗ (v ⊗ b ⊗ q)) ⊕ b ⊗ v ⊗ v ⊗ (t ⊗ (v ⊗ b) ⊗ (t ⊗ (v ⊗ b))) ≐ t ⊗ t ⊗ (v ⊗ b) ⊗
-        (# 40000 ⊗ q ⊕ b ⊗ v ⊗ v ⊗ (v ⊗ b))) (pos (members v w)) (pos v) (pos β) Q-of refl)
+        (ring₄ (λ f t v b. t ⊗ (v ⊗ b) ⊗ (t ⊗ (v ⊗ b)) ⊗ f ≐ t ⊗ t ⊗ (v ⊗ b) ⊗ (v ⊗ b ⊗ f)) F (pos (members v w)) (pos v) (pos β) refl)
+        (ap (λ z. pos 10000 *ℤ z +ℤ pos (β * v * v) *ℤ sq (pos (bottom v β w))) (squares-values w M)
+        ∙ ring₄ (λ t v b q. # 10000 ⊗ (t ⊗ t ⊗ (v ⊗ b ⊗ q)) ⊕ b ⊗ v ⊗ v ⊗ (t ⊗ (v ⊗ b) ⊗ (t ⊗ (v ⊗ b))) ≐ t ⊗ t ⊗ (v ⊗ b) ⊗
+        (# 10000 ⊗ q ⊕ b ⊗ v ⊗ v ⊗ (v ⊗ b))) (pos (members v w)) (pos v) (pos β) Q-of refl)
         (rounding-cost v>0 w M x near))
       where
         F : ℤ

@@ -3,21 +3,29 @@ use records::Listed;
 use records::Solved;
 use records::Verdict;
 ghost use mathlib.Core.Path.{_≡_};
+ghost use Prim.Native.Nat.{_≤_};
 ghost use lib.ListN.{length};
 ghost use Rattle.algebra.specs.Buffers.{Wrote};
 ghost use Rattle.listing.specs.Sheet.{valueLines, deviationLines, jobLines, sheetText, renderedAnswer, renderedAfter};
 
-// A line for each value: its numerator is in the slice, its hundredths are worked out.
-fn put_values(out: &mut [u8], at: usize, numerators: &[i64], denominator: u64) -> usize
+// A line for each value: its numerator is in one slice, its published hundredths in another.
+fn put_values(
+    out: &mut [u8],
+    at: usize,
+    numerators: &[i64],
+    hundredths: &[i64],
+    denominator: u64,
+) -> usize
+    requires { ⌜ length (now numerators) ≤ length (now hundredths) ⌝ }
     ensures { λ r. ⌜ Wrote (now (out .entry)) at
-        (valueLines (now (numerators .entry)) denominator (length (now (numerators .entry)))) (now (out .exit)) r ⌝ }
+        (valueLines (now (numerators .entry)) (now (hundredths .entry)) denominator (length (now (numerators .entry)))) (now (out .exit)) r ⌝ }
 {
     let mut place = at;
     let mut i: usize = 0;
     while i < numerators.len() {
         let numerator = numerators[i];
-        let hundredths = arithmetic::hundredths(numerator, denominator);
-        place = crate::lines::put_value(out, place, i, numerator, denominator, hundredths);
+        let published = hundredths[i];
+        place = crate::lines::put_value(out, place, i, numerator, denominator, published);
         i += 1;
     }
     place
@@ -39,13 +47,21 @@ fn put_deviations(out: &mut [u8], at: usize, numerators: &[i64], denominator: u6
 }
 
 // All lines of an accepted job.
-fn put_job(out: &mut [u8], at: usize, solved: Solved, values: &[i64], deviations: &[i64]) -> usize
-    ensures { λ r. ⌜ Wrote (now (out .entry)) at (jobLines solved (now (values .entry)) (now (deviations .entry))) (now (out .exit)) r ⌝ }
+fn put_job(
+    out: &mut [u8],
+    at: usize,
+    solved: Solved,
+    values: &[i64],
+    hundredths: &[i64],
+    deviations: &[i64],
+) -> usize
+    requires { ⌜ length (now values) ≤ length (now hundredths) ⌝ }
+    ensures { λ r. ⌜ Wrote (now (out .entry)) at (jobLines solved (now (values .entry)) (now (hundredths .entry)) (now (deviations .entry))) (now (out .exit)) r ⌝ }
 {
     let parameters = solved.parameters;
     let spreading = solved.spreading;
     let after_design = crate::lines::put_design(out, at, parameters);
-    let after_values = put_values(out, after_design, values, solved.denominator);
+    let after_values = put_values(out, after_design, values, hundredths, solved.denominator);
     let after_deviations = put_deviations(out, after_values, deviations, spreading.vbeta);
     crate::lines::put_spread(out, after_deviations, spreading)
 }
@@ -56,32 +72,43 @@ fn put_listing(
     at: usize,
     solved: Solved,
     values: &[i64],
+    hundredths: &[i64],
     deviations: &[i64],
 ) -> usize
-    ensures { λ r. ⌜ Wrote (now (out .entry)) at (sheetText solved (now (values .entry)) (now (deviations .entry))) (now (out .exit)) r ⌝ }
+    requires { ⌜ length (now values) ≤ length (now hundredths) ⌝ }
+    ensures { λ r. ⌜ Wrote (now (out .entry)) at
+        (sheetText solved (now (values .entry)) (now (hundredths .entry)) (now (deviations .entry))) (now (out .exit)) r ⌝ }
 {
     let verdict = solved.verdict;
     match verdict {
-        Verdict::Accepted => put_job(out, at, solved, values, deviations),
+        Verdict::Accepted => put_job(out, at, solved, values, hundredths, deviations),
         Verdict::Refused(number, place) => crate::lines::put_refused(out, at, number, place),
     }
 }
 
 // The text at the front of `out`, whose other bytes stay. A run over one byte of its own finds the length first, so that nothing is written where it
 // has no room.
-pub(crate) fn render(solved: Solved, values: &[i64], deviations: &[i64], out: &mut [u8]) -> Listed
-    ensures { λ r. ⌜ r ≡ renderedAnswer (sheetText solved (now (values .entry)) (now (deviations .entry))) (length (now (out .entry))) ⌝ }
-    ensures { λ r. ⌜ now (out .exit) ≡ renderedAfter (sheetText solved (now (values .entry)) (now (deviations .entry))) (now (out .entry)) ⌝ }
+pub(crate) fn render(
+    solved: Solved,
+    values: &[i64],
+    hundredths: &[i64],
+    deviations: &[i64],
+    out: &mut [u8],
+) -> Listed
+    requires { ⌜ length (now values) ≤ length (now hundredths) ⌝ }
+    ensures { λ r. ⌜ r ≡ renderedAnswer (sheetText solved (now (values .entry)) (now (hundredths .entry)) (now (deviations .entry))) (length (now (out .entry))) ⌝ }
+    ensures { λ r. ⌜ now (out .exit) ≡ renderedAfter (sheetText solved (now (values .entry)) (now (hundredths .entry)) (now (deviations .entry)))
+        (now (out .entry)) ⌝ }
 {
     let mut one = [0u8; 1];
-    let length = put_listing(&mut one, 0, solved, values, deviations);
+    let length = put_listing(&mut one, 0, solved, values, hundredths, deviations);
     if out.len() < length {
         return Listed {
             verdict: Verdict::Refused(10, 0),
             length: 0,
         };
     }
-    put_listing(out, 0, solved, values, deviations);
+    put_listing(out, 0, solved, values, hundredths, deviations);
     Listed {
         verdict: Verdict::Accepted,
         length,

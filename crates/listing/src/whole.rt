@@ -1,4 +1,6 @@
 // The text for any byte string: a job file worked out, and its lines put into lent room.
+use analysis::publishing::column;
+use fields::held;
 use records::Listed;
 use records::Solved;
 ghost use mathlib.Core.Path.{_≡_};
@@ -16,32 +18,25 @@ pub fn listing(bytes: &[u8], out: &mut [u8]) -> Listed
     let mut words = [0u64; 2600];
     let mut values = [0i64; 50];
     let mut deviations = [0i64; 1300];
-    listing_in_rooms(bytes, &mut words, &mut values, &mut deviations, out)
-}
-
-// The same, with the rooms lent.
-fn listing_in_rooms(
-    bytes: &[u8],
-    words: &mut [u64],
-    values: &mut [i64],
-    deviations: &mut [i64],
-    out: &mut [u8],
-) -> Listed
-    requires { ⌜ (2600 ≤ length (now words)) × (50 ≤ length (now values)) × (1300 ≤ length (now deviations)) ⌝ }
-    ensures { λ r. ⌜ r ≡ listedAnswer (now (bytes .entry)) (length (now (out .entry))) ⌝ }
-    ensures { λ r. ⌜ now (out .exit) ≡ listedAfter (now (bytes .entry)) (now (out .entry)) ⌝ }
-{
-    let solved = job::solve(bytes, words, values, deviations);
-    render_first(solved, values, deviations, out)
+    let solved = job::solve(bytes, &mut words, &mut values, &mut deviations);
+    let held = held(bytes);
+    let hundredths = column(&values, solved.denominator, held.set);
+    render_first(solved, &values, &hundredths, &deviations, out)
 }
 
 // The text of what was worked out, from the first numbers of two rooms: one for each object and one for each block.
-fn render_first(solved: Solved, values: &[i64], deviations: &[i64], out: &mut [u8]) -> Listed
-    requires { ⌜ (solved .parameters .v ≤ length (now values)) × (solved .parameters .b ≤ length (now deviations)) ⌝ }
-    ensures { λ r. ⌜ r ≡ renderedAnswer (sheetOf solved (now (values .entry)) (now (deviations .entry))) (length (now (out .entry))) ⌝ }
-    ensures { λ r. ⌜ now (out .exit) ≡ renderedAfter (sheetOf solved (now (values .entry)) (now (deviations .entry))) (now (out .entry)) ⌝ }
+fn render_first(
+    solved: Solved,
+    values: &[i64],
+    hundredths: &[i64],
+    deviations: &[i64],
+    out: &mut [u8],
+) -> Listed
+    requires { ⌜ (solved .parameters .v ≤ length (now values)) × (solved .parameters .v ≤ length (now hundredths)) × (solved .parameters .b ≤ length (now deviations)) ⌝ }
+    ensures { λ r. ⌜ r ≡ renderedAnswer (sheetOf solved (now (values .entry)) (now (hundredths .entry)) (now (deviations .entry))) (length (now (out .entry))) ⌝ }
+    ensures { λ r. ⌜ now (out .exit) ≡ renderedAfter (sheetOf solved (now (values .entry)) (now (hundredths .entry)) (now (deviations .entry))) (now (out .entry)) ⌝ }
 {
     let v = solved.parameters.v as usize;
     let b = solved.parameters.b as usize;
-    crate::text::render(solved, &values[..v], &deviations[..b], out)
+    crate::text::render(solved, &values[..v], hundredths, &deviations[..b], out)
 }

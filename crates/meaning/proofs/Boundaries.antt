@@ -30,7 +30,7 @@ use Rattle.meaning.specs.Analysis.{
   spreadHundredths,
   spreadHundredthsOf,
 }
-use Rattle.meaning.specs.Publishing.{published, float, floatZero, Near, noValue, spreadOf, spreadFreedom, spreadValue}
+use Rattle.meaning.specs.Publishing.{rank, shortfall, hundredthsIn, published, float, floatZero, Near, noValue, spreadOf, spreadFreedom, spreadValue}
 use Rattle.meaning.specs.Fractions.{Fraction, _=ᶠ_, summed, valuesAlong, deviationUnder, squaresUnder, KeepsRestraint, exactValues, publishedValues}
 use Rattle.meaning.specs.Refusals.{offender, farReading, sizes, accepted, refused}
 use Rattle.meaning.specs.Calls.{
@@ -52,6 +52,7 @@ use Rattle.meaning.specs.Calls.{
   totalVerdict,
   totalAnswer,
   valuesVerdict,
+  publishedAfter,
   valuesUnder,
   valueVerdict,
   valueAnswer,
@@ -240,6 +241,33 @@ zeros (suc n) = 0 ∷ zeros n
 abbrev parametersHeld : Judged → List ℕ
 parametersHeld j = j .parameters .v ∷ j .parameters .b ∷ j .parameters .r ∷ j .parameters .p ∷ j .parameters .l1 ∷ j .parameters .l2 ∷ []
 
+-- ---- publishing: v, the set, M, the numerators and their denominator; the hundredths
+
+-- one numerator for every object
+abbrev alone : ℤ → ℕ → ℤ
+alone x i = x
+
+-- the numerators of a list
+abbrev listed : List ℤ → ℕ → ℤ
+listed xs i = getD xs i (pos 0)
+
+abbrev publishingRows : List Row
+publishingRows =
+    -- three thirds of 1: two floors stay, the lowest object gains; below zero the floors are below and two gain
+    counting 3 (hundredthsIn 3 7 (pos 1) (alone (pos 1)) 3) (pos 34 ∷ pos 33 ∷ pos 33 ∷ [])
+    ∷ counting 3 (hundredthsIn 3 7 (negsuc 0) (alone (negsuc 0)) 3) (negsuc 32 ∷ negsuc 32 ∷ negsuc 33 ∷ [])
+    -- 1/6, 2/6, 3/6: the largest part gains, wherever it stands
+    ∷ counting 3 (hundredthsIn 3 7 (pos 1) (listed (pos 1 ∷ pos 2 ∷ pos 3 ∷ [])) 6) (pos 17 ∷ pos 33 ∷ pos 50 ∷ [])
+    ∷ counting 3 (hundredthsIn 3 7 (pos 1) (listed (pos 3 ∷ pos 2 ∷ pos 1 ∷ [])) 6) (pos 50 ∷ pos 33 ∷ pos 17 ∷ [])
+    -- 1/7 and three of 2/7: a shortfall of two, one hundredth each
+    ∷ counting 4 (hundredthsIn 4 15 (pos 1) (listed (pos 1 ∷ pos 2 ∷ pos 2 ∷ pos 2 ∷ [])) 7) (pos 14 ∷ pos 29 ∷ pos 29 ∷ pos 28 ∷ [])
+    -- -1/3 and 4/3: a whole sum of parts on both sides of zero
+    ∷ counting 2 (hundredthsIn 2 3 (pos 1) (listed (negsuc 0 ∷ pos 4 ∷ [])) 3) (negsuc 32 ∷ pos 133 ∷ [])
+    -- a member of eight objects with 1/8: the others round alone, half to even
+    ∷ counting 3 (hundredthsIn 3 1 (pos 5) (listed (pos 40 ∷ pos 1 ∷ pos 3 ∷ [])) 8) (pos 500 ∷ pos 12 ∷ pos 38 ∷ [])
+    ∷ counting 3 (hundredthsIn 3 4 (pos 5) (listed (negsuc 0 ∷ negsuc 2 ∷ pos 40 ∷ [])) 8) (negsuc 11 ∷ negsuc 37 ∷ pos 500 ∷ [])
+    ∷ []
+
 abbrev heldRows : List Row
 heldRows =
     holding (wordsUnder (developVerdict withInfinity pairs 14) withInfinity pairs (replicate 14 77))
@@ -270,6 +298,10 @@ heldRows =
     (negsuc 5 ∷ negsuc 23 ∷ pos 0 ∷ pos 9 ∷ pos 7 ∷ [])
     ∷ counting 3 (λ i. getD (valuesUnder (valuesVerdict three pair ys 5 (negsuc 0) 2) three pair ys 5 (negsuc 0) (pos 9 ∷ pos 9 ∷ [])) i (pos 7))
     (pos 9 ∷ pos 9 ∷ pos 7 ∷ [])
+    ∷ counting 5 (λ i. getD (publishedAfter three pair ys 5 (negsuc 0) (pos 9 ∷ pos 9 ∷ pos 9 ∷ pos 9 ∷ [])) i (pos 7))
+    (negsuc 99 ∷ negsuc 399 ∷ pos 0 ∷ pos 9 ∷ pos 7 ∷ [])
+    ∷ counting 3 (λ i. getD (publishedAfter three pair ys 5 (negsuc 0) (pos 9 ∷ pos 9 ∷ [])) i (pos 7)) (pos 9 ∷ pos 9 ∷ pos 7 ∷ [])
+    ∷ counting 3 (λ i. getD (publishedAfter three pair ys 0 (negsuc 0) (pos 9 ∷ pos 9 ∷ pos 9 ∷ [])) i (pos 7)) (pos 9 ∷ pos 9 ∷ pos 9 ∷ [])
     ∷ counting 5 (λ i. getD (deviationsUnder (deviationsVerdict three pair ys 4) three pair ys (pos 9 ∷ pos 9 ∷ pos 9 ∷ pos 9 ∷ [])) i (pos 7))
     (pos 3 ∷ pos 3 ∷ pos 3 ∷ pos 9 ∷ pos 7 ∷ [])
     ∷ counting 3 (λ i. getD (deviationsUnder (deviationsVerdict three pair ys 2) three pair ys (pos 9 ∷ pos 9 ∷ [])) i (pos 7)) (pos 9 ∷ pos 9 ∷ pos 7 ∷ [])
@@ -436,6 +468,14 @@ fileZero =
     ∷ 3 ∷ 0 ∷ 16 ∷ 0 ∷ 0 ∷ 0 ∷ 0 ∷ 0 ∷ 0 ∷ 0 ∷ 31 ∷ 255 ∷ 255 ∷ 255 ∷ 255 ∷ 196 ∷ 101 ∷ 54 ∷ 0
     ∷ 4 ∷ 0 ∷ 20 ∷ 0 ∷ 0 ∷ 0 ∷ 0 ∷ 0 ∷ 0 ∷ 0 ∷ 0 ∷ 0 ∷ 0 ∷ 0 ∷ 0 ∷ 0 ∷ 0 ∷ 0 ∷ 0 ∷ 0 ∷ 0 ∷ 0 ∷ 0 ∷ []
 
+-- three objects that share M = 1: each is a third, which no hundredths are
+abbrev fileThirds : List ℕ
+fileThirds =
+    1 ∷ 0 ∷ 4 ∷ 3 ∷ 0 ∷ 1 ∷ 1
+    ∷ 2 ∷ 0 ∷ 2 ∷ 0 ∷ 1
+    ∷ 3 ∷ 0 ∷ 16 ∷ 0 ∷ 0 ∷ 0 ∷ 0 ∷ 0 ∷ 0 ∷ 0 ∷ 7 ∷ 0 ∷ 0 ∷ 0 ∷ 0 ∷ 0 ∷ 0 ∷ 0 ∷ 1
+    ∷ 4 ∷ 0 ∷ 12 ∷ zeros 12
+
 unfoldable pub listingRows : List Row
 unfolding ascii
 listingRows =
@@ -445,6 +485,8 @@ listingRows =
     (ascii "design 4 3 3 2 1 2\nvalue 0 4000000050 8 50000000625\nvalue 1 3999999982 8 49999999775\nvalue 2 4000000018 8 50000000225\nvalue 3 4000000030 8 50000000375\ndev 0 0 4\ndev 1 0 4\ndev 2 0 4\nspread 0 4 0 none\n")
     ∷ lists fileZero
     (ascii "design 5 5 4 2 1 2\nvalue 0 -5000000000 25 -20000000000\nvalue 1 -5000000000 25 -20000000000\nvalue 2 -5000000000 25 -20000000000\nvalue 3 -5000000000 25 -20000000000\nvalue 4 -5000000000 25 -20000000000\ndev 0 0 5\ndev 1 0 5\ndev 2 0 5\ndev 3 0 5\ndev 4 0 5\nspread 0 5 1 0\n")
+    ∷ lists fileThirds
+    (ascii "design 3 3 2 1 0 1\nvalue 0 3 9 34\nvalue 1 3 9 33\nvalue 2 3 9 33\ndev 0 0 3\ndev 1 0 3\ndev 2 0 3\nspread 0 3 1 0\n")
     ∷ lists (fileA ++ (0 ∷ [])) (ascii "refused 9 56\n")
     ∷ lists [] (ascii "refused 1 0\n")
     ∷ holding (benchText (replicate 10000 9)) (ascii "refused 2 0\n")
@@ -509,10 +551,10 @@ writingRows =
     ∷ []
 
 unfoldable pub table : List Row
-table = sizeRows ++ designRows ++ callRows ++ heldRows ++ numberRows ++ fileRows ++ writingRows ++ listingRows
+table = sizeRows ++ designRows ++ callRows ++ publishingRows ++ heldRows ++ numberRows ++ fileRows ++ writingRows ++ listingRows
 
 pub boundaries : every table ≡ true
-unfolding table listingRows sized occ plus left right company opposition balanced beta total members restrained numeratorOf denominatorOf along difference deviationOf squaredReadings squaredTotals qOf root spreadHundredths spreadHundredthsOf published offender farReading word wordAt tableOf designVerdict developVerdict initialVerdict judgeVerdict slices contents jobVerdict totalVerdict valuesVerdict valueVerdict readingsVerdict deviationsVerdict deviationVerdict squaredReadingsVerdict squaredTotalsVerdict rooms analyseVerdict big numbersAt fieldVerdict fieldAt fields readVerdict solveVerdict bytesOf readingsBody fileOf writeVerdict ascii digits each textOf benchText over sum sumℕ firstFrom round
+unfolding table listingRows sized occ plus left right company opposition balanced beta total members restrained numeratorOf denominatorOf along difference deviationOf squaredReadings squaredTotals qOf root spreadHundredths spreadHundredthsOf rank shortfall published offender farReading word wordAt tableOf designVerdict developVerdict initialVerdict judgeVerdict slices contents jobVerdict totalVerdict valuesVerdict valueVerdict readingsVerdict deviationsVerdict deviationVerdict squaredReadingsVerdict squaredTotalsVerdict rooms analyseVerdict big numbersAt fieldVerdict fieldAt fields readVerdict solveVerdict bytesOf readingsBody fileOf writeVerdict ascii digits each textOf benchText over sum sumℕ firstFrom round
 boundaries = refl
 
 -- ---- how near an f64 is, and any set of values
@@ -541,7 +583,7 @@ unfolding sum sumℕ occ plus left right company opposition beta total members r
 restraint-of-A = refl
 
 pub published-of-A : publishedValues (headOf fileA) (blocksOf fileA) (readingsOf fileA) 3 (pos 7) 1 =ᶠ record { top = pos 73; bottom = 10 }
-unfolding sum sumℕ occ plus left right company opposition beta total members restrained numeratorOf denominatorOf big numbersAt published
+unfolding sum sumℕ occ plus left right company opposition beta total members restrained numeratorOf denominatorOf big numbersAt rank shortfall published
 published-of-A = refl
 
 -- over no objects the values add to 0

@@ -31,7 +31,7 @@ use Rattle.meaning.specs.Analysis.{
   freedom,
   spreadHundredthsOf,
 }
-use Rattle.meaning.specs.Publishing.{valueOf, noValue, noSpread, spreadOf}
+use Rattle.meaning.specs.Publishing.{published, valueOf, noValue, noSpread, spreadOf}
 use Rattle.meaning.specs.Refusals.{_⨾_, sizes, lengthIs, clean, exists, inBalance, restraint, inReach, room}
 
 -- what an accepting call gives, and what a refusing one does
@@ -130,6 +130,10 @@ valuesUnder verdict h d y w M values = written verdict (objects h) (numeratorOf 
 
 abbrev pub valuesAfter : Head → List ℕ → List ℤ → ℕ → ℤ → List ℤ → List ℤ
 valuesAfter h d y w M values = valuesUnder (valuesVerdict h d y w M (length values)) h d y w M values
+
+-- the published hundredths of all objects, under the same verdict: the room after
+abbrev pub publishedAfter : Head → List ℕ → List ℤ → ℕ → ℤ → List ℤ → List ℤ
+publishedAfter h d y w M hundredths = written (valuesVerdict h d y w M (length hundredths)) (objects h) (published h d y w M) hundredths
 
 -- the value of one object
 unfoldable pub valueVerdict : Head → List ℕ → List ℤ → ℕ → ℤ → ℕ → Verdict

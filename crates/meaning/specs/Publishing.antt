@@ -1,16 +1,18 @@
--- What is handed out for a fraction: its nearest hundredths and its f64; and the spread as an enum. Assumes nothing.
+-- What is handed out for a value: its published hundredths and its f64; and the spread as an enum. Assumes nothing.
 use Prim.Native.Nat.{ℕ, zero, suc, _+_, _-_, _*_, _/_, _%_, _^_, _≤_}
-use mathlib.Core.Bool.{Bool, true, false, cond}
+use mathlib.Core.Bool.{Bool, true, false, cond, _&&_, _||_}
 use mathlib.Core.List.{List}
 use mathlib.Core.Path.{_≡_}
-use lib.IntN.{ℤ, pos, negsuc, negℤ, natAbs}
-use lib.Dec.{ltb}
+use lib.IntN.{ℤ, pos, negsuc, negℤ, natAbs, _+ℤ_, _-ℤ_, _*ℤ_}
+use lib.Dec.{eqb, ltb}
 use lib.Ieee.{Float, nan, inf, fin, up, down, binary64, round}
+use Rattle.algebra.specs.Ranges.{sumℕ}
 use Rattle.records.specs.declared.Head.{Head}
 use Rattle.records.specs.declared.Value.{Value}
 use Rattle.records.specs.declared.Spread.{Spread}
 use Rattle.records.specs.declared.Spread.the-variants.{Of, None}
-use Rattle.meaning.specs.Analysis.{numeratorOf, denominatorOf}
+use Rattle.meaning.specs.Design.{objects}
+use Rattle.meaning.specs.Analysis.{member, restrained, numeratorOf, denominatorOf}
 
 -- whether x is below zero
 abbrev pub minus : ℤ → Bool
@@ -30,9 +32,40 @@ nearest a d = cond (ltb (2 * (a % d)) d) (a / d) (cond (ltb d (2 * (a % d))) (a 
 abbrev pub nearestHundredths : ℤ → ℕ → ℤ
 nearestHundredths a d = signed (minus a) (nearest (100 * natAbs a) d)
 
+-- the whole number at or below a / d, below zero too
+abbrev pub floor : ℤ → ℕ → ℤ
+floor (pos n) d = pos (n / d)
+floor (negsuc n) d = negsuc (n / d)
+
+-- the fractional part of a / d, how far it is above its floor, in d-ths
+abbrev pub part : ℤ → ℕ → ℕ
+part (pos n) d = n % d
+part (negsuc n) d = d - 1 - n % d
+
+-- 1 where object j is served before object i: its fractional part is larger, or as large and its number lower
+abbrev pub before : (ℕ → ℕ) → ℕ → ℕ → ℕ
+before parts j i = cond (ltb (parts i) (parts j) || eqb (parts j) (parts i) && ltb j i) 1 0
+
+-- how many of the members of the set w are served before object i
+unfoldable pub rank : ℕ → ℕ → (ℕ → ℕ) → ℕ → ℕ
+rank v w parts i = sumℕ v (λ j. member w j * before parts j i)
+
+-- the shortfall to 100·M: what the members' floors of 100 times their values, a i / e, leave of it. It is never negative
+unfoldable pub shortfall : ℕ → ℕ → ℤ → (ℕ → ℤ) → ℕ → ℕ
+shortfall v w M a e = natAbs (pos 100 *ℤ M -ℤ restrained v w (λ i. floor (pos 100 *ℤ a i) e))
+
+-- the hundredths of a member: its floor, and one more where those that are served before it leave some of the shortfall
+abbrev pub memberHundredths : ℕ → ℕ → ℤ → (ℕ → ℤ) → ℕ → ℕ → ℤ
+memberHundredths v w M a e i =
+    floor (pos 100 *ℤ a i) e +ℤ pos (cond (ltb (rank v w (λ j. part (pos 100 *ℤ a j) e) i) (shortfall v w M a e)) 1 0)
+
+-- the hundredths of object i of v, with the values a i / e: a member of the restraint set w takes part in the sum M, any other object rounds alone
+abbrev pub hundredthsIn : ℕ → ℕ → ℤ → (ℕ → ℤ) → ℕ → ℕ → ℤ
+hundredthsIn v w M a e i = cond (eqb (member w i) 1) (memberHundredths v w M a e i) (nearestHundredths (a i) e)
+
 -- published: the hundredths of a count of object i in a job
 unfoldable pub published : Head → List ℕ → List ℤ → ℕ → ℤ → ℕ → ℤ
-published h d y w M i = nearestHundredths (numeratorOf h d y w M i) (denominatorOf h d w)
+published h d y w M i = hundredthsIn (objects h) w M (numeratorOf h d y w M) (denominatorOf h d w) i
 
 -- a / d as an f64: the one quotient, rounded once
 abbrev pub float : ℤ → ℕ → Float

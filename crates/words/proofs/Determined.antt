@@ -21,6 +21,9 @@ use Rattle.words.proofs.sides.in_company.Reads as in-company-reads
 use Rattle.words.proofs.sides.in_opposition as in-opposition
 use Rattle.words.proofs.sides.in_opposition.Kinds as in-opposition-kinds
 use Rattle.words.proofs.sides.in_opposition.Reads as in-opposition-reads
+use Rattle.words.proofs.sides.holds as holds
+use Rattle.words.proofs.sides.holds.Kinds as holds-kinds
+use Rattle.words.proofs.sides.holds.Reads as holds-reads
 
 -- `ones`: the answer
 module _ (κs : Lfts 0) (a : ArgsD ones.signature κs) (r q : ResD ones.signature κs)
@@ -56,3 +59,10 @@ module _ (κs : Lfts 0) (a : ArgsD in-opposition.signature κs) (r q : ResD in-o
   pub in-opposition-determined : in-opposition-reads.Post κs a r s → in-opposition-reads.Post κs a q t →
       r ≡ q
   in-opposition-determined p e = p ∙ sym e
+
+-- `holds`: the answer
+module _ (κs : Lfts 0) (a : ArgsD holds.signature κs) (r q : ResD holds.signature κs)
+    (s t : AtExit (endedOf 0 holds-kinds.ps holds-kinds.r) κs) where
+  pub holds-determined : holds-reads.Post κs a r s → holds-reads.Post κs a q t →
+      r ≡ q
+  holds-determined p e = p ∙ sym e

@@ -1,7 +1,8 @@
 // A side of a block, or a restraint set, as a 64-bit word, one bit an object; every count is the language's own. The face: the ones of a word and the
-// walk of its objects, lowest first; in `sides`, two objects in company or in opposition.
+// walk of its objects, lowest first; in `sides`, an object in a word, two objects in company or in opposition.
 mod sides;
 
+pub use sides::holds;
 pub use sides::in_company;
 pub use sides::in_opposition;
 ghost use mathlib.Core.Path.{_≡_};

@@ -30,7 +30,7 @@ pub fn in_opposition(own: u64, other: u64, i: usize, j: usize) -> u64
 }
 
 // 1 where i stands in a word, and 0 otherwise.
-fn holds(word: u64, i: usize) -> u64
+pub fn holds(word: u64, i: usize) -> u64
     ensures { λ r. ⌜ r ≡ member word i ⌝ }
 {
     if 63 < i {

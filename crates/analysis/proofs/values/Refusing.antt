@@ -3,10 +3,9 @@ use mathlib.Core.Path.{_≡_, refl, sym, ap, _∙_}
 use mathlib.Core.Bool.{true, false}
 use mathlib.Core.List.{List}
 use Prim.Native.Nat.{ℕ, _≤_, _<_}
-use native.Mathlib.Omega.{arith}
-use borrow.Author.Tests.{lt-ltb, le-ltb}
-use lib.Dec.{ltb}
-use lib.IntN.{ℤ, pos}
+use borrow.Author.Tests.{lt-ltb, le-ltb, le-leb, lt-leb}
+use lib.Dec.{ltb, leb}
+use lib.IntN.{ℤ}
 use Rattle.records.specs.declared.Head.{Head}
 use Rattle.records.specs.declared.Verdict.{Verdict}
 use Rattle.records.specs.declared.Verdict.the-variants.{Accepted, Refused}
@@ -18,12 +17,11 @@ use Rattle.meaning.specs.Publishing.{published, valueOf, noValue}
 use Rattle.meaning.specs.Refusals.{_⨾_, accepted, refused, number, place, clean, inBalance, restraint, inReach, room}
 use Rattle.meaning.specs.Calls.{given, slices, contents, jobVerdict, rooms, analyseVerdict, valuesVerdict, valueVerdict, valueAnswer}
 use Rattle.laws.proofs.Chains.{Job, opened, accepts, goes-on, refused-stays, test-yes, test-no, job}
-use Rattle.laws.proofs.Analysis.{job-denominator}
-use Rattle.laws.proofs.Sizes.{numerator-most, denominator-most}
 use Rattle.verdicts.proofs.Told.{refusing}
-use Rattle.arithmetic.specs.Quotient.{exact, quotientOf, hundredthsOf, valueFrom}
-use Rattle.arithmetic.proofs.Exact.{Exact, quotient-is, hundredths-is}
+use Rattle.arithmetic.specs.Quotient.{valueFrom}
+use Rattle.arithmetic.proofs.Exact.{quotient-is}
 use Rattle.analysis.proofs.Accepting.{rooms-values, rooms-all}
+use Rattle.analysis.proofs.Column.{numbers-exact}
 use Rattle.verdicts.specs.Zeros.{noValueUnder}
 
 module _ (h : Head) (d : List ℕ) (y : List ℤ) (w : ℕ) (M : ℤ) where
@@ -35,6 +33,19 @@ module _ (h : Head) (d : List ℕ) (y : List ℤ) (w : ℕ) (M : ℤ) where
       by : (v : Verdict) → jobVerdict h d y w M ≡ v → v ⨾ rooms h 2600 len 1300 ≡ v ⨾ room len (objects h)
       by Accepted e = rooms-values h (job h d y w M e .measures .design .sizes) len
       by (Refused k at) e = refl
+
+  -- a refused job, a job with too little room, and one with enough
+  pub values-refused : (len k at : ℕ) → jobVerdict h d y w M ≡ refused k at → valuesVerdict h d y w M len ≡ refused k at
+  unfolding valuesVerdict
+  values-refused len k at e = refused-stays _ k at e
+
+  pub values-short : (len : ℕ) → jobVerdict h d y w M ≡ accepted → len < objects h → valuesVerdict h d y w M len ≡ refused 10 0
+  unfolding valuesVerdict
+  values-short len e l = goes-on _ e ∙ test-no (leb (objects h) len) 10 0 (lt-leb _ _ l)
+
+  pub values-roomy : (len : ℕ) → jobVerdict h d y w M ≡ accepted → objects h ≤ len → valuesVerdict h d y w M len ≡ accepted
+  unfolding valuesVerdict
+  values-roomy len e l = accepts e (test-yes (leb (objects h) len) 10 0 (le-leb _ _ l))
 
   -- with all rooms local the job decides
   pub job-verdict : analyseVerdict h d y w M 2600 50 1300 ≡ jobVerdict h d y w M
@@ -81,26 +92,12 @@ module _ (h : Head) (d : List ℕ) (y : List ℤ) (w : ℕ) (M : ℤ) where
 
 -- ---- the Value
 
--- a Value of zeros
-pub value-none : valueFrom (pos 0) 0 ≡ noValue
-unfolding quotientOf hundredthsOf exact
-value-none = refl
-
--- the numbers of an accepted job are f64s exactly, so its Values are the definition's
-pub value-from-is : (h : Head) (d : List ℕ) (y : List ℤ) (w : ℕ) (M : ℤ) (i : ℕ) → Job h d y w M →
-    valueFrom (numeratorOf h d y w M i) (denominatorOf h d w) ≡ valueOf h d y w M i
-unfolding published
-value-from-is h d y w M i j =
-    let s = j .measures .design in
-    let b = j .measures .even in
-    let exactly : Exact (numeratorOf h d y w M i) (denominatorOf h d w) = record {
-      top = omega (arith, numerator-most h d s y (j .measures .readings) b w M i (j .restraint .sum-most));
-      above = job-denominator h d y w M j;
-      bottom = omega (arith, denominator-most h d s b w);
-    } in
-    λ k. record {
-      numerator = numeratorOf h d y w M i;
-      denominator = denominatorOf h d w;
-      hundredths = hundredths-is (numeratorOf h d y w M i) (denominatorOf h d w) exactly k;
-      value = quotient-is (numeratorOf h d y w M i) (denominatorOf h d w) exactly k;
-    }
+-- the numbers of an accepted job are f64s exactly, so a Value with its published hundredths is the definition's
+pub value-from-is : (h : Head) (d : List ℕ) (y : List ℤ) (w : ℕ) (M : ℤ) (i : ℕ) (k : ℤ) → Job h d y w M → k ≡ published h d y w M i →
+    valueFrom (numeratorOf h d y w M i) (denominatorOf h d w) k ≡ valueOf h d y w M i
+value-from-is h d y w M i k j e = λ z. record {
+  numerator = numeratorOf h d y w M i;
+  denominator = denominatorOf h d w;
+  hundredths = e z;
+  value = quotient-is (numeratorOf h d y w M i) (denominatorOf h d w) (numbers-exact h d y w M i j) z;
+}

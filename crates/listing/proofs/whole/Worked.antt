@@ -22,12 +22,10 @@ use Rattle.meaning.specs.Calls.{jobVerdict, valuesUnder, deviationsUnder, sprea
 use Rattle.meaning.specs.File.{headOf, blocksOf, readingsOf, setOf, sumOf, readVerdict, solveVerdict}
 use Rattle.meaning.specs.Text.{each, designLine, valueLine, devLine, spreadLine, jobText, textUnder, textOf}
 use Rattle.laws.specs.Fits.{Fits}
-use Rattle.laws.proofs.Analysis.{job-denominator}
-use Rattle.laws.proofs.Chains.{Job, job}
-use Rattle.laws.proofs.Sizes.{denominator-most, numerator-most}
+use Rattle.laws.proofs.Chains.{job}
 use Rattle.laws.proofs.Files.{file-job}
-use Rattle.arithmetic.specs.Quotient.{hundredthsOf}
-use Rattle.arithmetic.proofs.Exact.{hundredths-is}
+use Rattle.analysis.specs.Column.{columnOf}
+use Rattle.analysis.proofs.Column.{column-published}
 use Rattle.printing.proofs.Each.{each-same}
 use Rattle.listing.specs.Sheet.{valueAt, valueLines, deviationAt, deviationLines, jobLines, sheetText}
 
@@ -44,32 +42,24 @@ part-at n f l i m b = getD-take n (over n f l) i (pos 0) b ∙ getD-over n f l (
 -- ---- an accepted job
 
 module _ (h : Head) (d : List ℕ) (y : List ℤ) (w : ℕ) (M : ℤ) (e : jobVerdict h d y w M ≡ accepted) (values deviations : List ℤ) where
-  j : Job h d y w M
-  j = job h d y w M e
+  module _ (f : length values ≡ 50) (v : objects h ≤ length values) (b : blocks h ≤ length deviations) where
+    -- the column that is worked out from the room
+    abbrev column : List ℤ
+    column = columnOf (over (objects h) (numeratorOf h d y w M) values) (denominatorOf h d w) w
 
-  -- the hundredths that are worked out are the published ones
-  worked-hundredths : (i : ℕ) → hundredthsOf (numeratorOf h d y w M i) (denominatorOf h d w) ≡ published h d y w M i
-  unfolding published
-  worked-hundredths i = hundredths-is (numeratorOf h d y w M i) (denominatorOf h d w) (record {
-    top = omega (arith, numerator-most h d (j .measures .design) y (j .measures .readings) (j .measures .even) w M i (j .restraint .sum-most));
-    above = job-denominator h d y w M j;
-    bottom = omega (arith, denominator-most h d (j .measures .design) (j .measures .even) w);
-  })
-
-  module _ (v : objects h ≤ length values) (b : blocks h ≤ length deviations) where
     abbrev a : List ℤ
     a = take (objects h) (over (objects h) (numeratorOf h d y w M) values)
 
     abbrev r : List ℤ
     r = take (blocks h) (over (blocks h) (deviationOf h d y) deviations)
 
-    value-lines : valueLines a (denominatorOf h d w) (length a) ≡ each (objects h)
+    value-lines : valueLines a column (denominatorOf h d w) (length a) ≡ each (objects h)
         (λ i. valueLine i (numeratorOf h d y w M i) (denominatorOf h d w) (published h d y w M i))
     value-lines =
-        (λ k. valueLines a (denominatorOf h d w) (part-long (objects h) (numeratorOf h d y w M) values v k))
-        ∙ each-same (objects h) (valueAt a (denominatorOf h d w))
+        (λ k. valueLines a column (denominatorOf h d w) (part-long (objects h) (numeratorOf h d y w M) values v k))
+        ∙ each-same (objects h) (valueAt a column (denominatorOf h d w))
         (λ i. valueLine i (numeratorOf h d y w M i) (denominatorOf h d w) (published h d y w M i)) (λ i l.
-        rw (part-at (objects h) (numeratorOf h d y w M) values i v l, worked-hundredths i) refl)
+        rw (part-at (objects h) (numeratorOf h d y w M) values i v l, column-published h d y w M (job h d y w M e) values _ f refl i l) refl)
 
     deviation-lines : deviationLines r (vbeta h d) (length r) ≡ each (blocks h) (λ k. devLine k (deviationOf h d y k) (vbeta h d))
     deviation-lines =
@@ -78,7 +68,7 @@ module _ (h : Head) (d : List ℕ) (y : List ℤ) (w : ℕ) (M : ℤ) (e : jobVe
         (λ k l. rw (part-at (blocks h) (deviationOf h d y) deviations k b l) refl)
 
     -- its lines are those of the definition
-    job-lines : jobLines (solvedUnder accepted h d y w) a r ≡ jobText h d y w M
+    job-lines : jobLines (solvedUnder accepted h d y w) a column r ≡ jobText h d y w M
     unfolding jobLines
     job-lines = λ k. designLine (parametersOf h d) ++ value-lines k ++ deviation-lines k ++ spreadLine (spreadingOf h d y)
 
@@ -111,15 +101,16 @@ module _ (s : List ℕ) where
   left-long (Refused k place) values deviations = (refl, refl)
 
   -- the text of the first numbers is the text of the file
-  first-text : (values deviations : List ℤ) → 50 ≤ length values → 1300 ≤ length deviations → (v : Verdict) → readVerdict s ≡ v →
-      sheetText (answer v) (take (answer v .parameters .v) (valuesLeft v values)) (take (answer v .parameters .b) (deviationsLeft v deviations)) ≡ textUnder v s
+  first-text : (values deviations : List ℤ) → length values ≡ 50 → 1300 ≤ length deviations → (v : Verdict) → readVerdict s ≡ v →
+      sheetText (answer v) (take (answer v .parameters .v) (valuesLeft v values)) (columnOf (valuesLeft v values) (answer v .denominator) (setOf s))
+      (take (answer v .parameters .b) (deviationsLeft v deviations)) ≡ textUnder v s
   unfolding sheetText
   first-text values deviations lv ld Accepted e =
-      job-lines (headOf s) (blocksOf s) (readingsOf s) (setOf s) (sumOf s) (file-job s e .1) values deviations
+      job-lines (headOf s) (blocksOf s) (readingsOf s) (setOf s) (sumOf s) (file-job s e .1) values deviations lv
       (omega (arith, file-sizes e .objects-most)) (omega (arith, file-sizes e .blocks-most))
   first-text values deviations lv ld (Refused k place) e = refl
 
-  module _ (words : List ℕ) (values deviations : List ℤ) (lw : 2600 ≤ length words) (lv : 50 ≤ length values) (ld : 1300 ≤ length deviations) where
+  module _ (words : List ℕ) (values deviations : List ℤ) (lw : 2600 ≤ length words) (lv : length values ≡ 50) (ld : 1300 ≤ length deviations) where
     abbrev verdict : Verdict
     verdict = solveVerdict s (length words) (length values) (length deviations)
 
@@ -143,7 +134,11 @@ module _ (s : List ℕ) where
       pub solved-fits : (r .parameters .v ≤ length after) × (r .parameters .b ≤ length after′)
       solved-fits = rw (says, first, second, rooms-enough) (omega (arith, few (readVerdict s) refl, left-long (readVerdict s) values deviations))
 
+      -- there are at most 50 values
+      pub solved-few : r .parameters .v ≤ 50
+      solved-few = rw (says, rooms-enough) (few (readVerdict s) refl .0)
+
       -- and their text is the text of the file
-      pub solved-text : sheetText r (take (r .parameters .v) after) (take (r .parameters .b) after′) ≡ textOf s
+      pub solved-text : sheetText r (take (r .parameters .v) after) (columnOf after (r .denominator) (setOf s)) (take (r .parameters .b) after′) ≡ textOf s
       unfolding textOf
       solved-text = rw (says, first, second, rooms-enough) (first-text values deviations lv ld (readVerdict s) refl)

@@ -1,7 +1,7 @@
 -- `value_of`: past its own tests the job decides, and the Value is made of the object's numerator. Assumes nothing.
 use borrow.Author.Needs.{needs}
 use mathlib.Core.Path.{_≡_, refl, sym, ap, ap₂, _∙_}
-use mathlib.Core.List.{List}
+use mathlib.Core.List.{List, replicate}
 use Prim.Native.Nat.{ℕ, _<_}
 use native.Mathlib.Omega.{arith}
 use denote.Ref.{now}
@@ -10,6 +10,7 @@ use lib.ListN.{getD}
 use mir.Syntax.{w64}
 use mir.Val.{toZ, ofZ}
 use mir.Facts.{toZ-ofZ}
+use Rattle.algebra.specs.Buffers.{over}
 use Rattle.algebra.proofs.Filling.{getD-over}
 use Rattle.algebra.proofs.Signs.{read-back}
 use Rattle.records.specs.declared.Head.{Head}
@@ -17,12 +18,15 @@ use Rattle.records.specs.declared.Verdict.{Verdict}
 use Rattle.records.specs.declared.Solved.{Solved}
 use Rattle.meaning.specs.Design.{objects}
 use Rattle.meaning.specs.Analysis.{numeratorOf, denominatorOf}
+use Rattle.meaning.specs.Publishing.{published}
 use Rattle.meaning.specs.Refusals.{_⨾_, accepted, refused, clean}
 use Rattle.meaning.specs.Calls.{slices, jobVerdict, analyseVerdict}
 use Rattle.laws.proofs.Chains.{job, opened, sliced, given-yes}
 use Rattle.design.proofs.Within.{within-sizes}
 use Rattle.verdicts.proofs.Told.{refusing, accepting}
 use Rattle.arithmetic.specs.Quotient.{valueFrom}
+use Rattle.analysis.specs.Column.{columnOf}
+use Rattle.analysis.proofs.Column.{column-published}
 use Rattle.analysis.proofs.values.Refusing.{job-verdict, value-refused, value-no-object, value-job, no-value-is, value-is-given, value-from-is}
 use Rattle.analysis.proofs.values.value_of.Statement.{statement}
 use Rattle.analysis.proofs.values.value_of.Tie as tie
@@ -79,12 +83,14 @@ module _ (c : tie.After-analyse) where
         ∙ given-yes (analyseVerdict head bytes ys (start .args .set) (start .args .sum) 2600 50 1300) (denominatorOf head bytes (start .args .set)) 0
         (rooms ∙ e)
 
+    filled-is : c .analyse .last .1 .1 .1 .1 .1 .1 .0 ≡ over (objects head) (numeratorOf head bytes ys (start .args .set) (start .args .sum)) (replicate 50 (pos 0))
+    filled-is = (rw (toZ-ofZ (start .fits .sum)) at (c .analyse .ensures .1 .1 .0))
+        ∙ given-yes (analyseVerdict head bytes ys (start .args .set) (start .args .sum) 2600 50 1300) _ _ (rooms ∙ e)
+
     numerator-is : getD (c .analyse .last .1 .1 .1 .1 .1 .1 .0) (start .args .object) (pos 0) ≡ numeratorOf head bytes ys (start .args .set)
         (start .args .sum) (start .args .object)
     numerator-is =
-        ap (λ (l : List ℤ). getD l (start .args .object) (pos 0))
-        ((rw (toZ-ofZ (start .fits .sum)) at (c .analyse .ensures .1 .1 .0))
-        ∙ given-yes (analyseVerdict head bytes ys (start .args .set) (start .args .sum) 2600 50 1300) _ _ (rooms ∙ e))
+        ap (λ (l : List ℤ). getD l (start .args .object) (pos 0)) filled-is
         ∙ getD-over (objects head) (numeratorOf head bytes ys (start .args .set) (start .args .sum)) _ (pos 0) (start .args .object) there
         (job head bytes ys (start .args .set) (start .args .sum) e .measures .design .sizes .objects-most)
 
@@ -106,30 +112,34 @@ returns-3 c =
     ∙ sym (solved-verdict a) ∙ refusing _ r)
 
 -- the object has its place among 50 values
-inside : tie.Need-mul-value-from
-inside c = omega (
-  arith,
-  there (c .before .before .before .before .before),
-  sliced _ _ _ (opened _ _ (passed (c .before .before .before .before .before .before .before .before .before .before .before)) .0) .sizes .objects-most,
-)
+module _ (c : tie.After-column) where
+  abbrev worked : tie.After-analyse
+  worked = c .before .before .before .before .before .before .before
 
-inside-too : tie.Need-array-copy-out-value-from
-inside-too c = omega (
-  arith,
-  there (c .before .before .before .before .before),
-  sliced _ _ _ (opened _ _ (passed (c .before .before .before .before .before .before .before .before .before .before .before)) .0) .sizes .objects-most,
-)
+  fitting : start worked .args .object < 50
+  fitting = omega (
+    arith,
+    there worked,
+    sliced _ _ _ (opened _ _ (passed (worked .before .before .before .before .before .before)) .0) .sizes .objects-most,
+  )
 
 returns-4 : tie.Need-returns-4
 returns-4 c =
-    let a = c .before .before .before .before .before .before .before in
-    let e = sym (solved-verdict a) ∙ accepting _ (sym (c .before .before .before .is-refused2 .ensures) ∙ c .before .before .if3 .left) in
-    let made : c .value-from .result ≡ valueFrom (toZ w64 (ofZ w64 (getD (a .analyse .last .1 .1 .1 .1 .1 .1 .0) (start a .args .object) (pos 0))))
-    (a .analyse .result .denominator) = search (c .value-from .ensures) in
-    value-is-given _ _ _ _ _ _ _ (value-job _ _ _ _ _ _
-    (passed (c .before .before .before .before .before .before .before .before .before .before .before .before .before)) (there a) ∙ e)
-    (made ∙ ap₂ valueFrom (read-back _ (c .before .value-from-arg .given) ∙ numerator-is a e) (denominator-is a e)
-    ∙ value-from-is _ _ _ _ _ _ (job (head a) (bytes a) (ys a) (start a .args .set) (start a .args .sum) e))
+    let n = c .before .before .before in
+    let a = worked n in
+    let s = start a in
+    let e = sym (solved-verdict a) ∙ accepting _ (sym (n .before .before .before .is-refused2 .ensures) ∙ n .before .before .if3 .left) in
+    let filled = a .analyse .last .1 .1 .1 .1 .1 .1 .0 in
+    let made : c .value-from .result ≡ valueFrom (toZ w64 (ofZ w64 (getD filled (s .args .object) (pos 0)))) (a .analyse .result .denominator)
+    (toZ w64 (ofZ w64 (getD (n .column .result) (s .args .object) (pos 0)))) = search (c .value-from .ensures) in
+    let laid : n .column .result ≡ columnOf filled (a .analyse .result .denominator) (s .args .set) = search (n .column .ensures) in
+    let hundredths : getD (n .column .result) (s .args .object) (pos 0) ≡ published (head a) (bytes a) (ys a) (s .args .set) (s .args .sum) (s .args .object) =
+    ap (λ (l : List ℤ). getD l (s .args .object) (pos 0)) (laid ∙ ap (λ (d : ℕ). columnOf filled d (s .args .set)) (denominator-is a e))
+    ∙ column-published _ _ _ _ _ (job (head a) (bytes a) (ys a) (s .args .set) (s .args .sum) e) _ _ refl (filled-is a e) (s .args .object) (there a) in
+    value-is-given _ _ _ _ _ _ _ (value-job _ _ _ _ _ _ (passed (a .before .before .before .before .before .before)) (there a) ∙ e)
+    (made ∙ (λ i. valueFrom ((read-back _ (c .before .before .value-from-arg .given) ∙ numerator-is a e) i) (denominator-is a e i)
+    ((read-back _ (c .before .value-from-arg2 .given) ∙ hundredths) i))
+    ∙ value-from-is _ _ _ _ _ _ _ (job (head a) (bytes a) (ys a) (s .args .set) (s .args .sum) e) refl)
 
 pub value-of-spec : {M : Type 1} → statement M
 value-of-spec =
@@ -149,7 +159,10 @@ value-of-spec =
     (λ c κs. search needs)
     (λ c κs. search needs)
     returns-3
-    inside
-    inside-too
+    (λ c κs. search needs)
+    (λ c. omega (arith, fitting c))
+    (λ c. omega (arith, fitting c))
+    (λ c. omega (arith, fitting (c .before)))
+    (λ c. omega (arith, fitting (c .before)))
     (λ c κs. search needs)
     returns-4)

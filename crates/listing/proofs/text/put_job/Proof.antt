@@ -19,7 +19,7 @@ put-job-spec =
     tie.close
     (tie.spec
     (λ c κs. tt)
-    (λ c κs. tt)
+    (λ c κs. search (c .before .before .before .before .before .before .before .before .pre))
     (λ c κs. tt)
     (λ c κs. tt)
     (λ c. search needs)

@@ -22,7 +22,7 @@ put-listing-spec =
     tie.close
     (tie.spec
     (λ c. search needs)
-    (λ c κs. tt)
+    (λ c κs. search (c .before .before .before .before .pre))
     (λ c. search needs)
     (λ c κs. tt)
     (λ c. search needs)

@@ -14,10 +14,10 @@ use Rattle.listing.proofs.text.put_values.Statement.{statement}
 use Rattle.listing.proofs.text.put_values.Tie as tie
 
 abbrev Inv-loop : tie.InvT-loop
-Inv-loop out₀ at numerators denominator place₀ i₀ out place i = (i ≤ length numerators) × Wrote out₀ at (valueLines numerators denominator i) out place
+Inv-loop out₀ at numerators hundredths denominator place₀ i₀ out place i = (i ≤ length numerators) × Wrote out₀ at (valueLines numerators hundredths denominator i) out place
 
 abbrev μ-loop : tie.MeasureT-loop
-μ-loop out₀ at numerators denominator place₀ i₀ out place i = length numerators - i
+μ-loop out₀ at numerators hundredths denominator place₀ i₀ out place i = length numerators - i
 
 loop-again : tie.Need-loop-again Inv-loop μ-loop
 loop-again c =
@@ -27,17 +27,17 @@ loop-again c =
     let i = l .i in
     let start = a .before .before .before .before .args in
     let back = read-back (getD (start .numerators .now) i (pos 0)) (a .numerator .given) in
-    let hundredths = read-back (h .hundredths .result) (h .hundredths .ok) in (
+    let hundredths = read-back (getD (start .hundredths .now) i (pos 0)) (h .published .given) in (
       omega arith,
-      more-lines (valueAt (start .numerators .now) (start .denominator)) i (l .inv .1)
-          (named (c .before .before .put-value .ensures) (rw (hundredths, h .hundredths .ensures, back) (search needs))),
+      more-lines (valueAt (start .numerators .now) (start .hundredths .now) (start .denominator)) i (l .inv .1)
+          (named (c .before .before .put-value .ensures) (rw (hundredths, back) (search needs))),
     )
 
 returns : tie.Need-returns Inv-loop μ-loop
 returns c =
     let a = c .before .before .before .args in
     let e : c .before .loop .i ≡ length (a .numerators .now) = omega arith in
-    named (c .before .loop .inv .1) (λ j. valueLines (a .numerators .now) (a .denominator) (e j))
+    named (c .before .loop .inv .1) (λ j. valueLines (a .numerators .now) (a .hundredths .now) (a .denominator) (e j))
 
 pub put-values-spec : {M : Type 1} → statement M
 put-values-spec =
@@ -48,7 +48,8 @@ put-values-spec =
     (λ c. (omega arith, no-lines _ _ _))
     (λ c. omega arith)
     (λ c. omega arith)
-    (λ c κs. tt)
+    (λ c. omega arith)
+    (λ c. omega (arith, c .before .before .before .before .pre))
     (λ c κs. tt)
     (λ c. omega arith)
     (λ c. omega arith)

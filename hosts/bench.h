@@ -9,7 +9,7 @@
  *
  * What is lent. A buffer is a pointer and its length in elements. The pointer is not NULL, also where the length is 0, and
  * buffers that a call writes overlap no other buffer of the call. Two kinds of buffer are written:
- *   rooms: `words`, `table`, `values`, `deviations`, `out`;
+ *   rooms: `words`, `table`, `values`, `hundredths`, `deviations`, `out`;
  *   slots, after all other arguments: `signed_slots` for signed answers, `answer` for unsigned ones, `real` for doubles.
  *
  * What is written, and when. A call that accepts writes the first entries of its rooms and its own slots, listed below, from the
@@ -37,10 +37,11 @@
  * to 64; b = m*n at most 1,300; readings within +-200,000; the accepted sum within +-1,000,000,000.
  *
  * Calls may be made from several threads at once, each with its own buffers to write: the library keeps nothing between calls.
- * Of the stack bench_listing takes about 99 KB; bench_values, bench_value_of, bench_deviation_of, bench_q and bench_spread 94 KB;
- * bench_deviations and bench_analyse 83 KB; bench_read and bench_solve 68 KB; bench_company, bench_opposition, bench_judge,
- * bench_refusal and bench_write 62 KB; bench_total and bench_sum_of_squared_totals 22 KB; the others less than 1 KB. A thread that
- * makes any of them needs about 104 KB with what the thread itself takes. That is measured with the archive for x86-64, not proved.
+ * Of the stack bench_listing takes about 99 KB; bench_values, bench_value_of, bench_published, bench_deviation_of, bench_q and
+ * bench_spread 94 KB; bench_deviations and bench_analyse 83 KB; bench_read and bench_solve 68 KB; bench_company, bench_opposition,
+ * bench_judge, bench_refusal and bench_write 62 KB; bench_total and bench_sum_of_squared_totals 22 KB; the others less than 1 KB. A
+ * thread that makes any of them needs about 104 KB with what the thread itself takes. That is measured with the archive for x86-64,
+ * not proved.
  */
 #ifndef BENCH_H
 #define BENCH_H
@@ -97,7 +98,7 @@ enum {
 /* bench_value_of: `signed_slots`, then `answer`, then `real`. */
 enum {
     BENCH_VALUE_NUMERATOR = 0,
-    BENCH_VALUE_HUNDREDTHS = 1, /* published: the nearest hundredths of a count */
+    BENCH_VALUE_HUNDREDTHS = 1, /* published: hundredths of a count, as bench_published has them */
     BENCH_VALUE_SIGNED_SLOTS = 2,
     BENCH_VALUE_DENOMINATOR = 0,
     BENCH_VALUE_SLOTS = 1,
@@ -192,6 +193,13 @@ uint64_t bench_value_of(size_t n, size_t flag, size_t p, size_t m, const uint8_t
                         int64_t *signed_slots, size_t signed_slots_length,
                         uint64_t *answer, size_t answer_length,
                         double *real, size_t real_length);
+
+/* The v published hundredths of a count. Members of the restraint: the whole number at or below 100 times the value; what then lacks
+ * to 100*sum is given out one hundredth each, to the largest fractional parts first, the lowest object first among equals. So the
+ * members' hundredths add to 100*sum. Other objects: the nearest whole number, an exact half to the even one. */
+uint64_t bench_published(size_t n, size_t flag, size_t p, size_t m, const uint8_t *blocks, size_t blocks_length,
+                         const int32_t *readings, size_t readings_length, uint64_t set, int64_t sum,
+                         int64_t *hundredths, size_t hundredths_length);
 
 /* The b numerators of the deviations. Their denominator is that of bench_deviation_of, v*beta. */
 uint64_t bench_deviations(size_t n, size_t flag, size_t p, size_t m, const uint8_t *blocks, size_t blocks_length,

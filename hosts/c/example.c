@@ -1,4 +1,5 @@
-/* Judges the design of example A, tells the value of one of its objects, assembles its job, and lists it: hosts/c/example.c
+/* Judges the design of example A, tells the value of one of its objects, adds up its published column, assembles its job, and lists it:
+ * hosts/c/example.c
  * With a word, lists that job file: hosts/c/example.c FILE */
 #include <inttypes.h>
 #include <stdio.h>
@@ -34,6 +35,17 @@ int main(int argc, char **argv) {
         return told(refused);
     fprintf(stderr, "object 1: %" PRId64 "/%" PRIu64 ", %g counts\n", value[BENCH_VALUE_NUMERATOR],
             answer[BENCH_VALUE_DENOMINATOR], real[BENCH_VALUE_REAL]);
+
+    /* The published column: the two members add to 700 hundredths, no more and no less. */
+    int64_t hundredths[BENCH_VALUES];
+    refused = bench_published(5, 0, 2, 1, blocks, sizeof blocks, readings, 5, 3, 7, hundredths, BENCH_VALUES);
+    if (refused)
+        return told(refused);
+    fprintf(stderr, "objects 0 and 1: %" PRId64 " and %" PRId64 " hundredths\n", hundredths[0], hundredths[1]);
+    if (hundredths[0] + hundredths[1] != 100 * 7) {
+        fprintf(stderr, "the column does not add up\n");
+        return 1;
+    }
 
     /* As the program does: the first 8,192 bytes. No valid job is longer. */
     static uint8_t bytes[8192], text[BENCH_TEXT];

@@ -22,6 +22,7 @@ mod job;
 mod listing;
 mod papers;
 mod parts;
+mod publishing;
 mod seed;
 mod solve;
 mod stored;
@@ -135,6 +136,9 @@ const CALLS: &[Call] = &[
             vec![whole(&[numerator, results.hundredths[asked.number]]), whole(&[denominator]), real(numerator, denominator)]
         }
     ),
+    call!(bench_published(head blocks readings restraint; hundredths), [DESIGN, READINGS, BALANCE, RESTRAINT], |asked| {
+        vec![whole(&asked.solved().results.hundredths)]
+    }),
     call!(bench_deviations(head blocks readings; deviations), [DESIGN, READINGS, BALANCE], |asked| vec![whole(&asked.solved().results.deviations)]),
     call!(bench_deviation_of(head blocks readings number; signed_slots answer), [DESIGN, READINGS, BALANCE, &[Test::Block]], |asked| {
         let results = &asked.solved().results;

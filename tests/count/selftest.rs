@@ -1,13 +1,17 @@
 //! The figures that the request prints, each against the count; and that the designs made for trials are what they should be.
 
 use crate::balanced::{self, Design};
+use crate::compare;
+use crate::damage;
 use crate::design::{develop, pairs};
 use crate::job::{self, Head, Job};
 use crate::listing::listing;
 use crate::papers::{self, LISTS, TABLE_1, TABLE_2_TOTALS};
+use crate::publishing::{features, published, Feature};
 use crate::seed::Seed;
-use crate::solve::{nearest_even, totals};
+use crate::solve::{nearest_even, solve, totals, Fraction};
 use crate::stored::{self, A};
+use std::collections::BTreeMap;
 
 const LISTING_OF_A: &str = "\
 design 5 5 4 2 1 2
@@ -31,6 +35,8 @@ pub fn selftest() -> usize {
     worked_example(&mut figures);
     refusals(&mut figures);
     rounding(&mut figures);
+    publishing(&mut figures);
+    seeds(&mut figures);
     designs(&mut figures);
     figures.0
 }
@@ -142,7 +148,7 @@ fn rounding(figures: &mut Figures) {
     figures.same("I: 3/8", nearest_even(300, 8), 38);
     figures.same("I: -1/8", nearest_even(-100, 8), -12);
     let text = listing(&bytes_of("I"));
-    for (object, wanted) in ["value 0 1 8 12", "value 1 -1 8 -12", "value 2 3 8 38", "value 3 -7 8 -88"].into_iter().enumerate() {
+    for (object, wanted) in ["value 0 1 8 13", "value 1 -1 8 -13", "value 2 3 8 38", "value 3 -7 8 -88"].into_iter().enumerate() {
         figures.same("I as a job", line(&text, &format!("value {object} ")), wanted.to_string());
     }
     figures.same("a spread of 0", line(&listing(&bytes_of("end-spread-0")), "spread"), "spread 0 5 6 0".to_string());
@@ -151,6 +157,57 @@ fn rounding(figures: &mut Figures) {
     let last = line(&listing(&longest), "spread");
     let q: i128 = last.split(' ').nth(1).expect("Q").parse().expect("a number");
     figures.same("10,000 Q beyond 64 bits", 10_000 * q > i128::from(u64::MAX), true);
+}
+
+/// Columns worked out by hand: the values as fractions, the members, the accepted sum, the hundredths.
+type Column = (&'static str, &'static [(i128, i128)], &'static [usize], i128, &'static [i128]);
+
+const COLUMNS: &[Column] = &[
+    ("thirds: each 33 and a third, one lacks, the lowest gains", &[(1, 3), (1, 3), (1, 3)], &[0, 1, 2], 1, &[34, 33, 33]),
+    ("thirds below 0: each cut down to -34, two lack", &[(-1, 3), (-1, 3), (-1, 3)], &[0, 1, 2], -1, &[-33, -33, -34]),
+    ("example A, all whole: none lacks", &[(-3, 10), (73, 10), (19, 10), (5, 10), (51, 10)], &[0, 1], 7, &[-30, 730, 190, 50, 510]),
+    ("example I: 12 and -13, parts of a half, one lacks; 37.5 and -87.5 are no members", &[(1, 8), (-1, 8), (3, 8), (-7, 8)], &[0, 1], 0, &[13, -13, 38, -88]),
+    ("the same where the one below 0 is the lower object", &[(-1, 8), (1, 8), (3, 8), (1, 8)], &[0, 1], 0, &[-12, 12, 38, 12]),
+    ("sixths: parts of 2/3, 2/3 and 2/3 over 16, 16 and 66, two lack", &[(1, 6), (1, 6), (2, 3)], &[0, 1, 2], 1, &[17, 17, 66]),
+    ("sevenths: 14 2/7, 28 4/7, 57 1/7: the largest part gains, not the first", &[(1, 7), (2, 7), (4, 7)], &[0, 1, 2], 1, &[14, 29, 57]),
+    ("mixed signs: -67 and 1/3, 166 and 2/3, 0: one lacks", &[(-2, 3), (5, 3), (0, 1)], &[0, 1, 2], 1, &[-67, 167, 0]),
+    ("members apart from one another, the others rounded", &[(1, 3), (1, 6), (1, 3), (-1, 6), (1, 3)], &[0, 2, 4], 1, &[34, 17, 33, -17, 33]),
+    ("parts of 1/3, 2/3, 1/3, 2/3: the two larger gain", &[(1, 3), (2, 3), (1, 3), (2, 3)], &[0, 1, 2, 3], 2, &[33, 67, 33, 67]),
+    ("five of 1/40 short by two at 2 1/2, one of 7/8", &[(1, 40), (1, 40), (1, 40), (1, 40), (1, 40), (7, 8)], &[0, 1, 2, 3, 4, 5], 1, &[3, 3, 3, 2, 2, 87]),
+    ("a single member has its accepted sum", &[(1, 3), (-7, 1), (2, 3)], &[1], -7, &[33, -700, 67]),
+];
+
+fn publishing(figures: &mut Figures) {
+    for (about, values, restraint, sum, wanted) in COLUMNS {
+        let values: Vec<Fraction> = values.iter().map(|(top, bottom)| Fraction::new(*top, *bottom)).collect();
+        let column = published(&values, &restraint.iter().copied().collect(), *sum);
+        figures.same(about, &column[..], *wanted);
+        figures.same(about, restraint.iter().map(|object| column[*object]).sum::<i128>(), 100 * sum);
+    }
+    let text = listing(&bytes_of("L"));
+    for (object, wanted) in ["value 0 3 9 34", "value 1 3 9 33", "value 2 3 9 33"].into_iter().enumerate() {
+        figures.same("L", line(&text, &format!("value {object} ")), wanted.to_string());
+    }
+}
+
+/// The seeded jobs hold what publishing can go wrong by, each often enough: those of `calls 1 400` that are not harmed once more, by their parts, and those of
+/// `compare .. -- 1 1500`.
+fn seeds(figures: &mut Figures) {
+    let first = stored::trials().len() as u64;
+    let fixed = compare::fixed();
+    let parts = (first..first + 400).filter(|index| index % 2 == 0).map(|index| damage::parts(1, index).draft.file());
+    let files = (0..1500).map(|index| compare::trial(&fixed, 1, index).bytes);
+    for (about, bytes, least) in [("seeded jobs by their parts", parts.collect::<Vec<_>>(), 3), ("seeded job files", files.collect(), 10)] {
+        let mut often = BTreeMap::new();
+        for job in bytes.iter().filter_map(|bytes| job::read(bytes).ok()) {
+            features(&job, &solve(&job)).into_iter().for_each(|feature| *often.entry(feature).or_insert(0) += 1);
+        }
+        println!("{about}: {often:?}");
+        for feature in Feature::ALL {
+            let count = often.get(&feature).copied().unwrap_or(0);
+            figures.same(&format!("{about}: {feature:?} in {count} of them"), count >= least, true);
+        }
+    }
 }
 
 fn is_balanced(design: &Design) -> bool {

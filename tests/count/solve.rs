@@ -4,6 +4,7 @@
 
 use crate::design::Block;
 use crate::job::Job;
+use crate::publishing::{is_published_near, published};
 use std::cmp::Ordering;
 
 /// A fraction in lowest terms, its bottom above 0. All arithmetic is checked: the count stops rather than be wrong.
@@ -40,10 +41,45 @@ impl Fraction {
         Fraction::new(times(self.top, other.bottom), times(self.bottom, other.top))
     }
 
+    /// So many times this fraction.
+    pub fn multiplied(self, factor: i128) -> Fraction {
+        Fraction::new(times(factor, self.top), self.bottom)
+    }
+
+    pub fn nearest_even(self) -> i128 {
+        nearest_even(self.top, self.bottom)
+    }
+
+    pub fn is_whole(self) -> bool {
+        self.bottom == 1
+    }
+
+    /// The whole number at or below this fraction, below 0 too.
+    pub fn floor(self) -> i128 {
+        self.top.div_euclid(self.bottom)
+    }
+
+    /// What this fraction has above that whole number: at least 0, below 1.
+    pub fn part(self) -> Fraction {
+        Fraction::new(self.top.rem_euclid(self.bottom), self.bottom)
+    }
+
     /// The numerator over a given denominator, which must take this fraction whole.
     fn numerator_over(self, denominator: i128) -> i128 {
         assert_eq!(denominator % self.bottom, 0, "the denominator does not take the fraction");
         times(self.top, denominator / self.bottom)
+    }
+}
+
+impl Ord for Fraction {
+    fn cmp(&self, other: &Fraction) -> Ordering {
+        times(self.top, other.bottom).cmp(&times(other.top, self.bottom))
+    }
+}
+
+impl PartialOrd for Fraction {
+    fn partial_cmp(&self, other: &Fraction) -> Option<Ordering> {
+        Some(self.cmp(other))
     }
 }
 
@@ -100,7 +136,7 @@ pub fn solve(job: &Job) -> Results {
 
     let values = least_squares(job);
     let numerators: Vec<i128> = values.iter().map(|value| value.numerator_over(denominator)).collect();
-    let hundredths = numerators.iter().map(|numerator| nearest_even(100 * numerator, denominator)).collect();
+    let hundredths = published(&values, &job.restraint, job.sum);
 
     // Each block's own deviation from the solved values: first over t·v·beta, then over v·beta, where it must be whole too.
     let mut deviations = Vec::new();
@@ -117,6 +153,7 @@ pub fn solve(job: &Job) -> Results {
 
     let results = Results { denominator, numerators, hundredths, deviation_denominator, deviations, q, freedom, spread };
     agrees_with_closed_forms(job, &results);
+    is_published_near(job, &results);
     results
 }
 

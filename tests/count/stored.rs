@@ -61,7 +61,8 @@ pub fn examples() -> Vec<Example> {
         ),
         example(
             "I",
-            "values of 1/8, -1/8, 3/8 and -7/8: exact halves of a hundredth go to the even one",
+            "values of 1/8, -1/8, 3/8 and -7/8, exact halves of a hundredth: of the members 0 and 1 the lower is given the one that lacks, \
+             the others go to the even one",
             job(3, 1, "0 | 1; oo | 0", 3, 0, vec![1, 0, 0, 0, -1, -2]).file(),
         ),
         example("J", "with the fixed object, three a side (000): balanced", seeded(7, 1, LISTS[8].list, 10).file()),
@@ -77,6 +78,11 @@ pub fn examples() -> Vec<Example> {
     all.push(example("K-n50-flag1", "n 50 with the fixed object breaks them", Draft { flag: 1, ..differences_once_50() }.file()));
     all.push(example("K-empty", "no bytes at all", Vec::new()));
     all.push(example("K-byte-added", "A and one byte more", [&A[..], &[0]].concat()));
+    all.push(example(
+        "L",
+        "three objects of 1/3 each, restrained to 1 count: rounded alone they would add to 99 hundredths",
+        job(3, 0, "0 | 1", 7, 1, vec![0, 0, 0]).file(),
+    ));
     all
 }
 
@@ -199,7 +205,8 @@ fn readme() -> String {
         "# The examples\n\n\
          Each `.job` is a job file; the `.listing` beside it is what `bench` prints for it, byte for byte.\n\
          Both come from the independent count in `tests/count`, which shares nothing with the proved code.\n\
-         B to G and J have small seeded readings, and objects 0 and 1 as restraint.\n\n\
+         B to G and J have small seeded readings, and objects 0 and 1 as restraint. Two members add up even where each is rounded\n\
+         alone; L has three.\n\n\
          | File | Shows | First line |\n|---|---|---|\n",
     );
     for example in examples() {

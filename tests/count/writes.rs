@@ -18,6 +18,7 @@ mod job;
 mod listing;
 mod papers;
 mod parts;
+mod publishing;
 mod seed;
 mod solve;
 mod stored;

@@ -60,6 +60,8 @@ calls! {
     /// The value of one object: numerator, hundredths; denominator; its f64.
     value_of = bench_value_of(n: usize, flag: usize, p: usize, m: usize, blocks: &[u8], readings: &[i32], set: u64, sum: i64, object: usize,
         signed_slots: &mut [i64], answer: &mut [u64], real: &mut [f64],);
+    /// The v published hundredths.
+    published = bench_published(n: usize, flag: usize, p: usize, m: usize, blocks: &[u8], readings: &[i32], set: u64, sum: i64, hundredths: &mut [i64],);
     /// The b numerators of the deviations.
     deviations = bench_deviations(n: usize, flag: usize, p: usize, m: usize, blocks: &[u8], readings: &[i32], deviations: &mut [i64],);
     /// The deviation of one block: numerator; denominator.

@@ -133,7 +133,7 @@ pub struct Parameters {
     pub l2: u64,
 }
 
-/// The value of one object: a fraction that is not reduced, its published hundredths of a count, and its f64.
+/// The value of one object: a fraction that is not reduced, its published hundredths of a count, as [`published`] has them, and its f64.
 #[derive(Debug, Clone, Copy, PartialEq)]
 pub struct Value {
     pub numerator: i64,
@@ -383,6 +383,24 @@ pub fn value_of(head: Head, blocks: &[u8], readings: &[i32], set: u64, sum: i64,
     let (mut signed, mut answer, mut real) = ([0; 2], [0], [0.0]);
     refusal_in(calls::value_of(n, flag, p, m, blocks, readings, set, sum, object, &mut signed, &mut answer, &mut real))?;
     Ok(Value { numerator: signed[0], denominator: answer[0], hundredths: signed[1], value: real[0] })
+}
+
+/// The published hundredths of a count of all objects. Members of the restraint have the whole number at or below 100 times their value, and what then lacks
+/// to 100 times the accepted sum is given out one hundredth each, to the largest fractional parts first, the lowest object first among equals: so their column
+/// adds up. The other objects have the nearest whole number, an exact half the even one.
+///
+/// ```
+/// # use mass_bench::{published, Head};
+/// let thirds = published(Head { n: 3, flag: 0, p: 1, m: 1 }, &[0, 1], &[0, 0, 0], 0b111, 1)?;
+/// assert_eq!(thirds, [34, 33, 33]);
+/// # Ok::<(), mass_bench::Refusal>(())
+/// ```
+pub fn published(head: Head, blocks: &[u8], readings: &[i32], set: u64, sum: i64) -> Result<Vec<i64>, Refusal> {
+    let Head { n, flag, p, m } = head;
+    let mut hundredths = vec![0; VALUES];
+    refusal_in(calls::published(n, flag, p, m, blocks, readings, set, sum, &mut hundredths))?;
+    hundredths.truncate(head.objects());
+    Ok(hundredths)
 }
 
 /// The numerators of the deviations of all blocks.

@@ -103,6 +103,24 @@ fn values_are_worked_out() {
 }
 
 #[test]
+fn published_columns_add_up() {
+    assert_eq!(published(A, &BLOCKS, &READINGS, SET, SUM).unwrap(), [-30, 730, 190, 50, 510]);
+    assert_eq!(published(A, &BLOCKS, &READINGS, 0, SUM), refused(Reason::BadRestraint, 0));
+    // thirds, above and below zero: of equal parts the lowest objects gain
+    let three = Head { n: 3, flag: 0, p: 1, m: 1 };
+    assert_eq!(published(three, &[0, 1], &[0; 3], 0b111, 1).unwrap(), [34, 33, 33]);
+    assert_eq!(published(three, &[0, 1], &[0; 3], 0b111, -1).unwrap(), [-33, -33, -34]);
+    // one object at a time gives the same, and each set of members adds to 100 times its accepted sum
+    for (set, sum) in (1..32).flat_map(|set| [7, 1, 0, -4].map(|sum| (set, sum))) {
+        let column = published(A, &BLOCKS, &READINGS, set, sum).unwrap();
+        let alone: Vec<i64> = (0..5).map(|object| value_of(A, &BLOCKS, &READINGS, set, sum, object).unwrap().hundredths).collect();
+        assert_eq!(column, alone, "set {set}, sum {sum}");
+        let members: i64 = (0..5).filter(|object| set >> object & 1 == 1).map(|object| column[object]).sum();
+        assert_eq!(members, 100 * sum, "set {set}, sum {sum}");
+    }
+}
+
+#[test]
 fn deviations_and_spread_are_worked_out() {
     assert_eq!(deviations(A, &BLOCKS, &READINGS).unwrap(), [5; 5]);
     assert_eq!(deviations(C, &[0, 1], &[0; 4]), refused(Reason::Unbalanced, 0));
@@ -193,7 +211,7 @@ fn every_example_is_listed() {
             jobs += 1;
         }
     }
-    assert!(jobs >= 16);
+    assert!(jobs >= 17);
 }
 
 // ---- what is lent, through `calls`
@@ -269,6 +287,7 @@ fn rooms_and_slots_of_jobs() {
     lent("sum_of_squares", WORD, &[211], |answer| calls::sum_of_squares(n, flag, p, m, y, answer));
     lent("sum_of_squared_totals", WORD, &[1030], |answer| calls::sum_of_squared_totals(n, flag, p, m, b, y, answer));
     lent("values", SIGNED, &[-3, 73, 19, 5, 51], |values| calls::values(n, flag, p, m, b, y, SET, SUM, values));
+    lent("published", SIGNED, &[-30, 730, 190, 50, 510], |hundredths| calls::published(n, flag, p, m, b, y, SET, SUM, hundredths));
     lent("deviations", SIGNED, &[5; 5], |deviations| calls::deviations(n, flag, p, m, b, y, deviations));
     lent("q", WORD, &[25], |answer| calls::q(n, flag, p, m, b, y, answer));
     let far = [0, 0, 0, 200_001, 0];
@@ -276,6 +295,8 @@ fn rooms_and_slots_of_jobs() {
     stays("sum_of_squares", WORD, 8, 3, |answer| calls::sum_of_squares(n, flag, p, m, &far, answer));
     stays("sum_of_squared_totals", WORD, 8, 3, |answer| calls::sum_of_squared_totals(n, flag, p, m, b, &far, answer));
     stays("values", SIGNED, 7, 0, |values| calls::values(n, flag, p, m, b, &far, 0, SUM, values));
+    stays("published", SIGNED, 7, 0, |hundredths| calls::published(n, flag, p, m, b, &far, 0, SUM, hundredths));
+    stays("published", SIGNED, 8, 3, |hundredths| calls::published(n, flag, p, m, b, &far, SET, SUM, hundredths));
     stays("deviations", SIGNED, 8, 3, |deviations| calls::deviations(n, flag, p, m, b, &far, deviations));
     stays("q", WORD, 8, 3, |answer| calls::q(n, flag, p, m, b, &far, answer));
     assert_eq!(calls::refusal(n, flag, p, m, b, &far, SET, SUM), 8 + (3 << 16));

@@ -13,7 +13,7 @@ use Rattle.algebra.specs.Buffers.{over}
 use Rattle.algebra.specs.Ranges.{sum, sumℕ, firstFrom}
 use Rattle.records.specs.declared.Head.{Head}
 use Rattle.records.specs.declared.Judged.{Judged}
-use Rattle.meaning.specs.Design.{sized, occ, plus, left, right, company, opposition, balanced, beta}
+use Rattle.meaning.specs.Design.{fieldPrime, sized, occ, digitSum, plus, left, right, company, opposition, balanced, beta}
 use Rattle.meaning.specs.Analysis.{
   total,
   members,
@@ -512,7 +512,7 @@ unfoldable pub table : List Row
 table = sizeRows ++ designRows ++ callRows ++ heldRows ++ numberRows ++ fileRows ++ writingRows ++ listingRows
 
 pub boundaries : every table ≡ true
-unfolding table listingRows sized occ plus left right company opposition balanced beta total members restrained numeratorOf denominatorOf along difference deviationOf squaredReadings squaredTotals qOf root spreadHundredths spreadHundredthsOf published offender farReading word wordAt tableOf designVerdict developVerdict initialVerdict judgeVerdict slices contents jobVerdict totalVerdict valuesVerdict valueVerdict readingsVerdict deviationsVerdict deviationVerdict squaredReadingsVerdict squaredTotalsVerdict rooms analyseVerdict big numbersAt fieldVerdict fieldAt fields readVerdict solveVerdict bytesOf readingsBody fileOf writeVerdict ascii digits each textOf benchText over sum sumℕ firstFrom round
+unfolding table listingRows fieldPrime sized occ digitSum plus left right company opposition balanced beta total members restrained numeratorOf denominatorOf along difference deviationOf squaredReadings squaredTotals qOf root spreadHundredths spreadHundredthsOf published offender farReading word wordAt tableOf designVerdict developVerdict initialVerdict judgeVerdict slices contents jobVerdict totalVerdict valuesVerdict valueVerdict readingsVerdict deviationsVerdict deviationVerdict squaredReadingsVerdict squaredTotalsVerdict rooms analyseVerdict big numbersAt fieldVerdict fieldAt fields readVerdict solveVerdict bytesOf readingsBody fileOf writeVerdict ascii digits each textOf benchText over sum sumℕ firstFrom round
 boundaries = refl
 
 -- ---- how near an f64 is, and any set of values
@@ -532,16 +532,16 @@ valuesOfA = exactValues (headOf fileA) (blocksOf fileA) (readingsOf fileA) 3 (po
 
 -- example A: the sum of squared deviations of its exact values is Q over v·beta, 25/5
 pub squares-of-A : squaresUnder (headOf fileA) (blocksOf fileA) (readingsOf fileA) valuesOfA =ᶠ record { top = pos 25; bottom = 5 }
-unfolding sum sumℕ occ plus left right company opposition beta total members restrained numeratorOf denominatorOf big numbersAt summed valuesAlong deviationUnder squaresUnder
+unfolding sum sumℕ occ fieldPrime digitSum plus left right company opposition beta total members restrained numeratorOf denominatorOf big numbersAt summed valuesAlong deviationUnder squaresUnder
 squares-of-A = refl
 
 -- example A: its exact values keep the restraint, and its published values are the listed hundredths of a count
 pub restraint-of-A : KeepsRestraint 5 3 (pos 7) valuesOfA
-unfolding sum sumℕ occ plus left right company opposition beta total members restrained numeratorOf denominatorOf big numbersAt summed
+unfolding sum sumℕ occ fieldPrime digitSum plus left right company opposition beta total members restrained numeratorOf denominatorOf big numbersAt summed
 restraint-of-A = refl
 
 pub published-of-A : publishedValues (headOf fileA) (blocksOf fileA) (readingsOf fileA) 3 (pos 7) 1 =ᶠ record { top = pos 73; bottom = 10 }
-unfolding sum sumℕ occ plus left right company opposition beta total members restrained numeratorOf denominatorOf big numbersAt published
+unfolding sum sumℕ occ fieldPrime digitSum plus left right company opposition beta total members restrained numeratorOf denominatorOf big numbersAt published
 published-of-A = refl
 
 -- over no objects the values add to 0

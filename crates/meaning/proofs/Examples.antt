@@ -5,7 +5,7 @@ use mathlib.Core.Path.{_≡_, refl}
 use Prim.Native.Nat.{ℕ}
 use lib.IntN.{pos, negsuc}
 use Rattle.algebra.specs.Ranges.{sum, sumℕ, firstFrom}
-use Rattle.meaning.specs.Design.{sized, occ, plus, left, right, company, opposition, balanced, beta}
+use Rattle.meaning.specs.Design.{fieldPrime, sized, occ, digitSum, plus, left, right, company, opposition, balanced, beta}
 use Rattle.meaning.specs.Analysis.{
   total,
   members,
@@ -83,5 +83,5 @@ table =
     ∷ []
 
 pub examples : every table ≡ true
-unfolding table sized occ plus left right company opposition balanced beta total members restrained numeratorOf denominatorOf along difference deviationOf squaredReadings squaredTotals qOf root spreadHundredths spreadHundredthsOf published offender farReading designVerdict judgeVerdict slices contents big numbersAt fieldVerdict fields readVerdict ascii digits each textOf sum sumℕ firstFrom
+unfolding table fieldPrime sized occ digitSum plus left right company opposition balanced beta total members restrained numeratorOf denominatorOf along difference deviationOf squaredReadings squaredTotals qOf root spreadHundredths spreadHundredthsOf published offender farReading designVerdict judgeVerdict slices contents big numbersAt fieldVerdict fields readVerdict ascii digits each textOf sum sumℕ firstFrom
 examples = refl

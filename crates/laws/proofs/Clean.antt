@@ -98,7 +98,7 @@ module _ (h : Head) (d : List ℕ) (s : Sound h d) where
 -- ---- a byte in range is moved to an object, and two bytes to two
 module _ (h : Head) (s : ℕ) (ad : hasAddition h ≡ true) (sl : s < h .n) where
   -- a byte in range that is not 255 is an element
-  element : (x : ℕ) → (x ≡ 255 → ⊥) → inRange h x ≡ true → x < h .n
+  pub element : (x : ℕ) → (x ≡ 255 → ⊥) → inRange h x ≡ true → x < h .n
   element x e t = ltb-true x (h .n) (subst (λ (u : Bool). cond u (withFixed h) (ltb x (h .n)) ≡ true) (ne-eqb x 255 e) t)
 
   -- where 255 is in range the fixed object takes part

@@ -9,7 +9,7 @@ use mathlib.Core.Bool.{Bool, true, false, cond}
 use mathlib.Core.Path.{_≡_, refl, sym, ap, ap₂, _∙_, subst}
 use native.Mathlib.Omega.{arith}
 use native.Mathlib.Decide.{ℕ-discrete}
-use native.Mathlib.Nat.{mod-lt, zero-mod, zero-div, zero-mul, suc-add, div-lt-iff-lt-mul, pow-zero, pow-suc}
+use native.Mathlib.Nat.{zero-mod, zero-div, zero-mul, suc-add, div-lt-iff-lt-mul, pow-zero, pow-suc}
 use lib.Dec.{ltb}
 use borrow.Author.Tests.{ne-eqb, ltb-true}
 use Rattle.records.specs.declared.Head.{Head}
@@ -89,8 +89,8 @@ field-group n some =
     alike-group n (digitSum q (t .digits)) (digitSum q 5)
     (subst (λ (z : ℕ). Group z (digitSum q (t .digits))) (t .is) (digits-group q (t .digits)))
     (λ x s l m.
-        zeros-above q (t .digits) (t .above) x s some (subst (λ (z : ℕ). x < z) (sym (t .is)) l) (subst (λ (z : ℕ). s < z) (sym (t .is)) m)
-        ∙ ap (λ (c : ℕ). digitSum q c x s) (t .five))
+    zeros-above q (t .digits) (t .above) x s some (subst (λ (z : ℕ). x < z) (sym (t .is)) l) (subst (λ (z : ℕ). s < z) (sym (t .is)) m)
+    ∙ ap (λ (c : ℕ). digitSum q c x s) (t .five))
 
 -- ---- the addition of a head
 

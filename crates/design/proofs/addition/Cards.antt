@@ -2,7 +2,7 @@
 use mathlib.Core.Path.{_≡_, refl, _∙_, subst, sym, ap, ap₂}
 use mathlib.Core.Bool.{Bool, true, false, cond, _&&_}
 use mathlib.Core.List.{List, [], _∷_}
-use Prim.Native.Nat.{ℕ, zero, suc, _+_, _*_, _/_, _%_, _^_, _≤_, _<_}
+use Prim.Native.Nat.{ℕ, zero, suc, _+_, _*_, _/_, _%_, _<_}
 use native.Mathlib.Nat.{add-zero, zero-add, add-suc, suc-add, le-of-suc-le-suc, not-suc-le-zero}
 use native.Mathlib.Omega.{arith}
 use native.Mathlib.Decide.{ℕ-discrete}
@@ -13,7 +13,6 @@ use borrow.Author.Tests.{eqb-true, ne-eqb, ltb-true}
 use Rattle.algebra.proofs.Tests.{and-left, and-right}
 use Rattle.records.specs.declared.Head.{Head}
 use Rattle.meaning.specs.Design.{byField, fieldPrime, digitSum}
-use Rattle.meaning.proofs.Addition.{field-group}
 use Rattle.laws.specs.Fits.{Fits}
 
 -- the entry x at place i is right: it is the sum of i / n and i % n, the digits added modulo the prime of n
@@ -60,10 +59,6 @@ card-gives n k x s e l m card = go (rightCard k card) refl
 -- where a head that fits asks for a field, there is one
 pub field-there : (h : Head) → Fits h → byField h ≡ true → 0 < fieldPrime (h .n)
 field-there h f e = ltb-true 0 (fieldPrime (h .n)) (subst (λ (b : Bool). cond b (ltb 0 (fieldPrime (h .n))) true ≡ true) e (f .has-addition))
-
--- what a card gives is an element
-pub sum-fits : (n x s : ℕ) → n ≤ 50 → 0 < fieldPrime n → x < n → s < n → digitSum (fieldPrime n) 5 x s < 2 ^ 64
-sum-fits n x s most some l m = omega (arith, field-group n some .closed x s l m)
 
 -- what is none of the others is the last
 pub last-field : (n : ℕ) → 0 < fieldPrime n → (n ≡ 8 → ⊥) → (n ≡ 9 → ⊥) → (n ≡ 16 → ⊥) → (n ≡ 25 → ⊥) → (n ≡ 27 → ⊥) → (n ≡ 32 → ⊥) → n ≡ 49

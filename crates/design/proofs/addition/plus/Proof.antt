@@ -20,4 +20,4 @@ unfolding plus
 returns-2 c = rw (sym (c .before .by-field .ensures) ∙ c .if1 .left)
 
 pub plus-spec : {M : Type 1} → statement M
-plus-spec = tie.close (tie.spec (λ c κs. search needs) by-card-requires (λ c. search needs) (λ c. search needs) returns returns-2)
+plus-spec = tie.close (tie.spec (λ c κs. search needs) by-card-requires (λ c. search needs) (λ c. search needs) (λ c. search needs) returns returns-2)

@@ -162,7 +162,7 @@ pub fn at_bounds(whole: impl Fn() -> Asked) -> Vec<Asked> {
         all.push(asked);
     };
     heads.iter().for_each(|[n, flag, p, m]| add(&|asked| asked.head = Head { n: *n, flag: *flag, p: *p, m: *m }));
-    [0, 1 << (n + flag - 1), 1 << (n + flag), 1 << 63, u64::MAX].iter().for_each(|set| add(&|asked| asked.set = *set));
+    [0, 1 << (n + flag % 2 - 1), 1 << (n + flag % 2), 1 << 63, u64::MAX].iter().for_each(|set| add(&|asked| asked.set = *set));
     let (sum, reading) = (SUM_LIMIT as i64, READING_LIMIT as i32);
     [sum, -sum, sum + 1, -sum - 1, i64::MIN, i64::MAX].iter().for_each(|sum| add(&|asked| asked.sum = *sum));
     let far = [reading, -reading, reading + 1, -reading - 1, i32::MIN, i32::MAX];

@@ -196,7 +196,7 @@ pub fn harm(asked: &mut Asked, seed: &mut Seed) {
 pub fn numbers(asked: &Asked, seed: &mut Seed) -> Vec<usize> {
     let Head { n, flag, m, .. } = asked.head;
     let mut all = vec![0, 1, 2, 255, 256, 1 << 16, 1 << 32, 1 << 48, (1 << 48) + 3, 1 << 63, usize::MAX, seed.below(10), seed.below(50), seed.below(1300)];
-    all.extend([n, m, n.wrapping_add(flag), m.wrapping_mul(n)].iter().flat_map(|count| [*count, count.wrapping_sub(1)]));
+    all.extend([n, m, n.wrapping_add(flag % 2), m.wrapping_mul(n)].iter().flat_map(|count| [*count, count.wrapping_sub(1)]));
     seed.shuffle(&mut all);
     all.truncate(8);
     all

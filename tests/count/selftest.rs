@@ -167,7 +167,8 @@ fn rounding(figures: &mut Figures) {
 /// The fields: their sizes, sums with nothing carried, and that every element but 0 has an inverse.
 fn fields(figures: &mut Figures) {
     figures.same("the fields", (0..=100).filter(|n| Field::of(*n).is_some()).collect::<Vec<usize>>(), SIZES.map(usize::from).to_vec());
-    for (n, x, y, wanted) in [(9, 5, 7, 0), (9, 4, 4, 8), (9, 3, 6, 0), (8, 3, 5, 6), (16, 9, 3, 10), (25, 7, 18, 20), (27, 13, 14, 24), (32, 21, 11, 30), (49, 45, 10, 6)] {
+    let sums = [(9, 5, 7, 0), (9, 4, 4, 8), (9, 3, 6, 0), (8, 3, 5, 6), (16, 9, 3, 10), (25, 7, 18, 20), (27, 13, 14, 24), (32, 21, 11, 30), (49, 45, 10, 6)];
+    for (n, x, y, wanted) in sums {
         figures.same("a sum", Field::of(n).expect("a field").sum(x, y), wanted);
     }
     let nine = Field::of(9).expect("a field");

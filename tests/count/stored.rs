@@ -175,7 +175,8 @@ fn at_the_ends() -> Vec<Example> {
             all.push(example(&format!("field-{n}-flag{flag}"), &about, over(&design, 5, 17, small(20 + number as u64)).file()));
         }
     }
-    all.push(example("field-49-objects-50", "49 elements and the fixed object, 1,225 blocks", over(&balanced::field_pairs(49, 3), 1 << 49 | 1, 9, extreme(9)).file()));
+    let fifty = over(&balanced::field_pairs(49, 3), 1 << 49 | 1, 9, extreme(9));
+    all.push(example("field-49-objects-50", "49 elements and the fixed object, 1,225 blocks", fifty.file()));
     let in_nine = |flag: u8, objects: Vec<u8>| Draft { flag, objects, ..seeded(9, 2, "0 | 1", 22) }.file();
     let fixed_twice = Draft { objects: vec![255, 255], ..seeded(3, 1, "oo | 0", 20) };
     all.extend([

@@ -204,5 +204,6 @@ module _ (h : Head) (d : List ℕ) (s : Sound h d) (k : ℕ) (l : k < blocks h) 
   -- no object stands twice in a block, be it on one side or on both
   pub block-once : (i : ℕ) → occ i (left h d k) + occ i (right h d k) ≤ 1
   block-once i = subst (λ (z : ℕ). z ≤ 1) (ap (occ i) (sym block-halves) ∙ occ-append i (left h d k) (right h d k))
-      (occ-once (λ x. inRange h x ≡ true) (moved h (k % h .n)) (moved-injective h (k % h .n) (s .sizes .has-addition) (shift-below h k l)) i (initial h d (k / h .n))
+      (occ-once (λ x. inRange h x ≡ true) (moved h (k % h .n)) (moved-injective h (k % h .n) (s .sizes .has-addition) (shift-below h k l)) i
+      (initial h d (k / h .n))
       (part-range h d s (2 * h .p * (k / h .n)) (2 * h .p) inside) (λ x. initial-once h d s (k / h .n) x (initial-below h k l)))

@@ -99,8 +99,9 @@ pub fn refusal_in(returned: u64) -> Result<(), Refusal> {
     }
 }
 
-/// The sizes of a design: elements, flag, objects a side, initial blocks. With the flags 1 and 3 the fixed object takes part; with 2 and 3 blocks are developed by
-/// the addition of the field of n elements, n one of 8, 9, 16, 25, 27, 32, 49, an element being its base-q digits packed into a number, the lowest first.
+/// The sizes of a design: elements, flag, objects a side, initial blocks. With the flags 1 and 3 the fixed object takes part; with 2 and 3 blocks are
+/// developed by the addition of the field of n elements, n one of 8, 9, 16, 25, 27, 32, 49: an element is its base-q digits packed into a number, the
+/// lowest first, and each two digits are added modulo q.
 /// ```
 /// # use mass_bench::*;
 /// let nine = Head { n: 9, flag: 2, p: 4, m: 1 };

@@ -50,7 +50,8 @@ side-word-requires c κs =
     let d = sound _ _ (s .pre .0) in
     let first = 2 * s .args .head .p * s .args .j in
     let in-list : first + (first + s .args .head .p - first) ≤ length (now (s .args .blocks)) = omega (arith, inside s .0, d .long) in
-    (d .sizes, search needs, simp length-take (omega (arith, d .sizes)), part-range (s .args .head) (now (s .args .blocks)) d first (first + s .args .head .p - first) in-list)
+    let range = part-range (s .args .head) (now (s .args .blocks)) d first (first + s .args .head .p - first) in-list in
+    (d .sizes, search needs, simp length-take (omega (arith, d .sizes)), range)
 
 part-side-word-end-2 : tie.Need-part-side-word-end-2 Inv-loop μ-loop
 part-side-word-end-2 c = let s = c .before .before .before .before .before .before in omega (arith, inside s .0, sound _ _ (s .pre .0) .long)
@@ -61,7 +62,8 @@ side-word-requires-2 c κs =
     let d = sound _ _ (s .pre .0) in
     let first = 2 * s .args .head .p * s .args .j + s .args .head .p in
     let in-list : first + (first + s .args .head .p - first) ≤ length (now (s .args .blocks)) = omega (arith, inside s .0, d .long) in
-    (d .sizes, search needs, simp length-take (omega (arith, d .sizes)), part-range (s .args .head) (now (s .args .blocks)) d first (first + s .args .head .p - first) in-list)
+    let range = part-range (s .args .head) (now (s .args .blocks)) d first (first + s .args .head .p - first) in-list in
+    (d .sizes, search needs, simp length-take (omega (arith, d .sizes)), range)
 
 slice-write-part-2 : tie.Need-slice-write-part-2 Inv-loop μ-loop
 slice-write-part-2 c = simp length-set (omega arith)

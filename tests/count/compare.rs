@@ -12,7 +12,7 @@ use std::thread;
 use std::time::Duration;
 
 /// Heads at each bound of the sizes, on both sides of it: n, flag, p, m. Alone in a file they are refused by 4 or for the missing field.
-pub const HEADS: [[u8; 4]; 46] = [
+pub const HEADS: [[u8; 4]; 38] = [
     [3, 0, 1, 1],
     [2, 0, 1, 1],
     [2, 1, 1, 1],
@@ -49,16 +49,8 @@ pub const HEADS: [[u8; 4]; 46] = [
     [9, 2, 5, 1],
     [9, 3, 5, 64],
     [9, 4, 1, 1],
-    [9, 5, 1, 1],
-    [16, 3, 8, 64],
-    [25, 2, 12, 52],
-    [27, 3, 14, 48],
-    [32, 2, 16, 40],
     [49, 3, 25, 26],
-    [4, 2, 1, 1],
     [10, 3, 1, 1],
-    [48, 2, 1, 1],
-    [50, 2, 1, 1],
 ];
 
 /// Jobs that do not depend on the seed: what is stored, heads alone, every cut of A, and every byte of A changed in three ways.

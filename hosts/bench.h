@@ -20,8 +20,8 @@
  *   2 | another tag stands there                                          | field start      | -
  *   3 | the length is not the one required: of a field; of a slice        | field start      | 0
  *   4 | a size is broken                                                  | field start      | 0
- *   5 | an object is out of range, is the fixed object with flag 0, or    | that byte        | its index in `blocks`
- *     | was already in its block; then: there is no object, initial       |                  |
+ *   5 | an object is out of range, is the fixed object with flag 0 or 2,  | that byte        | its index in `blocks`
+ *     | or was already in its block; then: there is no object, initial    |                  |
  *     | block or block of the number asked for                            | -                | that number
  *   6 | the developed design is unbalanced                                | 0                | 0
  *   7 | the restraint set is empty or has a bit at v or above, or its     | field start      | 0
@@ -33,8 +33,11 @@
  * 2, 3, 1 for the body; 4 right after the first field; after the fourth 9; then 5, 6, 7, 8. 10 comes last in every call. Development,
  * tables, totals and sums of squares need no balance: no 6. Deviations, Q and spread take no restraint: no 7.
  *
- * Sizes: n from 3 to 50; flag 0, or 1 where the fixed object takes part; v = n + flag at most 50; p at least 1, 2p at most v; m from 1
- * to 64; b = m*n at most 1,300; readings within +-200,000; the accepted sum within +-1,000,000,000.
+ * Sizes: n from 3 to 50; flag 0 to 3; v at most 50; p at least 1, 2p at most v; m from 1 to 64; b = m*n at most 1,300; readings within
+ * +-200,000; the accepted sum within +-1,000,000,000.
+ * Flag: with 1 and 3 the fixed object takes part and v is n + 1, with 0 and 2 v is n. With 0 and 1 a shift is added modulo n; with 2 and 3
+ * by the addition of the field of n elements, and n is one of 8, 9, 16, 25, 27, 32, 49: elements are base-q digits packed into a number, q
+ * the prime, the lowest digit first, and each two digits are added modulo q.
  *
  * Calls may be made from several threads at once, each with its own buffers to write: the library keeps nothing between calls.
  * Of the stack bench_listing takes about 99 KB; bench_values, bench_value_of, bench_published, bench_deviation_of, bench_q and
@@ -137,7 +140,7 @@ enum {
     BENCH_LENGTH_SLOTS = 1
 };
 
-/* ---- designs: n residues, flag 1 if the fixed object takes part, p objects a side, m initial blocks. `blocks` has the m initial
+/* ---- designs: n elements, the flag (above), p objects a side, m initial blocks. `blocks` has the m initial
  * blocks, each p left objects, then p right ones, a byte each; 255 is the fixed object, which is object n everywhere else. */
 
 /* Why a block list is refused: 4, 3, 5. */

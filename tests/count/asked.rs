@@ -162,7 +162,7 @@ pub fn at_bounds(whole: impl Fn() -> Asked) -> Vec<Asked> {
         all.push(asked);
     };
     heads.iter().for_each(|[n, flag, p, m]| add(&|asked| asked.head = Head { n: *n, flag: *flag, p: *p, m: *m }));
-    [0, 1 << (n + flag - 1), 1 << (n + flag), 1 << 63, u64::MAX].iter().for_each(|set| add(&|asked| asked.set = *set));
+    [0, 1 << (n + flag % 2 - 1), 1 << (n + flag % 2), 1 << 63, u64::MAX].iter().for_each(|set| add(&|asked| asked.set = *set));
     let (sum, reading) = (SUM_LIMIT as i64, READING_LIMIT as i32);
     [sum, -sum, sum + 1, -sum - 1, i64::MIN, i64::MAX].iter().for_each(|sum| add(&|asked| asked.sum = *sum));
     let far = [reading, -reading, reading + 1, -reading - 1, i32::MIN, i32::MAX];
@@ -196,7 +196,7 @@ pub fn harm(asked: &mut Asked, seed: &mut Seed) {
 pub fn numbers(asked: &Asked, seed: &mut Seed) -> Vec<usize> {
     let Head { n, flag, m, .. } = asked.head;
     let mut all = vec![0, 1, 2, 255, 256, 1 << 16, 1 << 32, 1 << 48, (1 << 48) + 3, 1 << 63, usize::MAX, seed.below(10), seed.below(50), seed.below(1300)];
-    all.extend([n, m, n.wrapping_add(flag), m.wrapping_mul(n)].iter().flat_map(|count| [*count, count.wrapping_sub(1)]));
+    all.extend([n, m, n.wrapping_add(flag % 2), m.wrapping_mul(n)].iter().flat_map(|count| [*count, count.wrapping_sub(1)]));
     seed.shuffle(&mut all);
     all.truncate(8);
     all

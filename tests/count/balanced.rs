@@ -3,8 +3,9 @@
 //! Each maker rests on the method of differences: its initial blocks, developed, give every difference equally often. Whether a design
 //! is balanced is decided by the count all the same; the selftest demands it of those that should be.
 
+use crate::field::{Field, SIZES};
 use crate::job::INFINITY;
-use crate::papers;
+use crate::papers::{self, Printed};
 use crate::seed::Seed;
 
 /// The head and the block list of a job, nothing else.
@@ -18,6 +19,36 @@ pub struct Design {
 }
 
 impl Design {
+    /// The elements, and the fixed object with an odd flag.
+    pub fn v(&self) -> u8 {
+        self.n + self.flag % 2
+    }
+
+    /// The field over which it is written, with the flags 2 and 3.
+    fn field(&self) -> Option<&'static Field> {
+        (self.flag >= 2).then(|| Field::of(self.n.into()).expect("a field of this size"))
+    }
+
+    /// The numbers by which its elements can be named anew.
+    fn units(&self) -> Vec<u8> {
+        (1..self.n).filter(|unit| self.field().is_some() || greatest_common(*unit, self.n) == 1).collect()
+    }
+
+    fn product(&self, object: u8, factor: u8) -> u8 {
+        match self.field() {
+            Some(field) if object != INFINITY => field.product(object.into(), factor.into()) as u8,
+            _ => multiplied(self.n, object, factor),
+        }
+    }
+
+    fn sum(&self, object: u8, shift: u8) -> u8 {
+        match self.field() {
+            _ if object == INFINITY => INFINITY,
+            Some(field) => field.sum(object.into(), shift.into()) as u8,
+            None => (object + shift) % self.n,
+        }
+    }
+
     pub fn m(&self) -> usize {
         self.objects.len() / (2 * usize::from(self.p))
     }
@@ -83,10 +114,34 @@ pub fn all_pairs(n: u8, flag: u8, copies: usize) -> Design {
     Design { kind: "all pairs", n, flag, p: 1, objects }
 }
 
+/// Every two elements of a field opposed, one a side; where each is its own opposite, they meet in both orders, and the fixed object meets them twice.
+pub fn field_pairs(n: u8, flag: u8) -> Design {
+    let field = Field::of(n.into()).expect("a field of this size");
+    let mut objects: Vec<u8> = field.half().iter().flat_map(|difference| [0, *difference as u8]).collect();
+    if flag == 3 {
+        (0..if n % 2 == 0 { 2 } else { 1 }).for_each(|_| objects.extend([INFINITY, 0]));
+    }
+    Design { kind: "field pairs", n, flag, p: 1, objects }
+}
+
 /// Any blocks over a prime, times one of each two opposite units (000, 2.2 a and 2.3 a). With the fixed object, c of the blocks have it,
 /// c(n+1)/(2p) in all, so that it too meets the others as often as they meet.
 pub fn over_prime(n: u8, flag: u8, p: u8, seed: &mut Seed) -> Option<Design> {
-    let (bases, fixed) = if flag == 0 {
+    let objects = bases(n, flag, p, seed)?;
+    let design = Design { kind: "over a prime", n, flag, p, objects: times(n, &objects, &half_units(n)) };
+    design.fits().then_some(design)
+}
+
+/// The same over a field, times one of each two opposite elements.
+pub fn over_field(n: u8, flag: u8, p: u8, seed: &mut Seed) -> Option<Design> {
+    let mut design = Design { kind: "over a field", n, flag, p, objects: bases(n, flag, p, seed)? };
+    let factors = Field::of(n.into()).expect("a field of this size").half();
+    design.objects = factors.iter().flat_map(|factor| design.objects.iter().map(|object| design.product(*object, *factor as u8))).collect();
+    design.fits().then_some(design)
+}
+
+fn bases(n: u8, flag: u8, p: u8, seed: &mut Seed) -> Option<Vec<u8>> {
+    let (bases, fixed) = if flag % 2 == 0 {
         (1, 0)
     } else {
         let fixed = (1..=2 * p).find(|fixed| u32::from(*fixed) * (u32::from(n) + 1) % (2 * u32::from(p)) == 0)?;
@@ -104,8 +159,7 @@ pub fn over_prime(n: u8, flag: u8, p: u8, seed: &mut Seed) -> Option<Design> {
         }
         objects.extend(block);
     }
-    let design = Design { kind: "over a prime", n, flag, p, objects: times(n, &objects, &half_units(n)) };
-    design.fits().then_some(design)
+    Some(objects)
 }
 
 /// Powers of a primitive element, even ones against odd ones, in steps of beta (000, 2.2 b and 2.3 b), where (n-1)/2 = beta p.
@@ -157,16 +211,21 @@ pub fn differences_once(n: u8) -> Design {
 }
 
 fn printed(seed: &mut Seed) -> Design {
-    let list = &papers::LISTS[seed.below(papers::LISTS.len())];
-    let (p, objects) = papers::objects(list.n, list.list);
-    Design { kind: "printed", n: list.n, flag: list.infinity.into(), p, objects }
+    over_list(&papers::LISTS[seed.below(papers::LISTS.len())])
+}
+
+pub fn over_list(list: &Printed) -> Design {
+    let (p, objects) = if list.field { papers::field_objects(list.list) } else { papers::objects(list.n, list.list) };
+    Design { kind: "printed", n: list.n, flag: u8::from(list.infinity) + if list.field { 2 } else { 0 }, p, objects }
 }
 
 /// Any clean blocks at any size: hardly ever balanced.
 fn any_blocks(seed: &mut Seed) -> Design {
-    let n = seed.between(3, 50) as u8;
-    let flag = if n < 50 { seed.below(2) as u8 } else { 0 };
-    let v = n + flag;
+    let over_field = seed.once_in(4);
+    let n = if over_field { seed.pick(&SIZES) } else { seed.between(3, 50) as u8 };
+    let fixed = if n < 50 { seed.below(2) as u8 } else { 0 };
+    let flag = fixed + if over_field { 2 } else { 0 };
+    let v = n + fixed;
     let p = seed.between(1, i64::from(v / 2)) as u8;
     let most = (1300 / usize::from(n)).min(64);
     let m = if seed.once_in(4) { most } else { 1 + seed.below(most) };
@@ -182,7 +241,7 @@ fn any_blocks(seed: &mut Seed) -> Design {
 /// A design of any kind, then written in another way: other order, other names, other shifts, sides exchanged, repeated.
 pub fn design(seed: &mut Seed) -> Design {
     let mut design = loop {
-        let made = match seed.below(12) {
+        let made = match seed.below(15) {
             0 | 1 => Some(printed(seed)),
             2 | 3 => {
                 let n = seed.between(3, 50) as u8;
@@ -201,6 +260,12 @@ pub fn design(seed: &mut Seed) -> Design {
             7 => Some(squares(seed.pick(&PRIMES))),
             8 => Some(if seed.once_in(2) { forty_nine() } else { Design { objects: longest().objects[..52].to_vec(), ..longest() } }),
             9 => Some(differences_once(seed.between(3, 50) as u8)),
+            10 => Some(field_pairs(seed.pick(&SIZES), 2 + seed.below(2) as u8)),
+            11 | 12 => {
+                let (n, fixed) = (seed.pick(&SIZES), seed.below(2) as u8);
+                let p = seed.between(1, i64::from((n + fixed) / 2)) as u8;
+                over_field(n, 2 + fixed, p, seed)
+            }
             _ => Some(any_blocks(seed)),
         };
         match made {
@@ -212,8 +277,8 @@ pub fn design(seed: &mut Seed) -> Design {
         let most = (64 / design.m()).min(1300 / (design.m() * usize::from(design.n)));
         let copies = if seed.once_in(3) { most } else { 1 + seed.below(most) };
         // Copies under different names of the residues: a union of balanced designs is balanced.
-        let units: Vec<u8> = (0..copies).map(|_| unit(design.n, seed)).collect();
-        design.objects = times(design.n, &design.objects, &units);
+        let units: Vec<u8> = (0..copies).map(|_| seed.pick(&design.units())).collect();
+        design.objects = units.iter().flat_map(|unit| design.objects.iter().map(|object| design.product(*object, *unit))).collect();
     }
     if seed.once_in(2) {
         rewrite(&mut design, seed);
@@ -221,26 +286,17 @@ pub fn design(seed: &mut Seed) -> Design {
     design
 }
 
-/// A residue by which the residues can be named anew.
-fn unit(n: u8, seed: &mut Seed) -> u8 {
-    let units: Vec<u8> = (1..n).filter(|unit| greatest_common(*unit, n) == 1).collect();
-    seed.pick(&units)
-}
-
 /// The same design up to names and order.
 fn rewrite(design: &mut Design, seed: &mut Seed) {
     let n = design.n;
-    let unit = unit(n, seed);
+    let unit = seed.pick(&design.units());
     let p = usize::from(design.p);
     let mut blocks: Vec<Vec<u8>> = design.objects.chunks(2 * p).map(|block| block.to_vec()).collect();
     seed.shuffle(&mut blocks);
     for block in &mut blocks {
         let shift = seed.below(n.into()) as u8;
         for object in block.iter_mut() {
-            *object = multiplied(n, *object, unit);
-            if *object != INFINITY {
-                *object = (*object + shift) % n;
-            }
+            *object = design.sum(design.product(*object, unit), shift);
         }
         let (left, right) = block.split_at_mut(p);
         seed.shuffle(left);

@@ -12,7 +12,7 @@ use std::thread;
 use std::time::Duration;
 
 /// Heads at each bound of the sizes, on both sides of it: n, flag, p, m. Alone in a file they are refused by 4 or for the missing field.
-pub const HEADS: [[u8; 4]; 32] = [
+pub const HEADS: [[u8; 4]; 38] = [
     [3, 0, 1, 1],
     [2, 0, 1, 1],
     [2, 1, 1, 1],
@@ -45,6 +45,12 @@ pub const HEADS: [[u8; 4]; 32] = [
     [21, 0, 10, 61],
     [21, 0, 10, 62],
     [31, 0, 15, 42],
+    [8, 2, 4, 64],
+    [9, 2, 5, 1],
+    [9, 3, 5, 64],
+    [9, 4, 1, 1],
+    [49, 3, 25, 26],
+    [10, 3, 1, 1],
 ];
 
 /// Jobs that do not depend on the seed: what is stored, heads alone, every cut of A, and every byte of A changed in three ways.

@@ -94,7 +94,7 @@ fn borders(draft: &Draft) -> [usize; 5] {
 /// A whole job over some design, which may yet be unbalanced.
 fn whole(seed: &mut Seed) -> (Design, Draft) {
     let design = design(seed);
-    let v = u32::from(design.n + design.flag);
+    let v = u32::from(design.v());
     let every = u64::MAX >> (64 - v);
     let restraint = match seed.below(5) {
         0 => 3,
@@ -228,7 +228,7 @@ fn initial_block_dropped(draft: &mut Draft, seed: &mut Seed) {
 }
 
 fn restraint(draft: &mut Draft, seed: &mut Seed) {
-    let v = u32::from(draft.n) + u32::from(draft.flag);
+    let v = u32::from(draft.n) + u32::from(draft.flag % 2);
     let at = |bit: u32| 1u64.checked_shl(bit).unwrap_or(0);
     draft.restraint = match seed.below(7) {
         0 => 0,
@@ -265,14 +265,15 @@ fn several_readings(draft: &mut Draft, seed: &mut Seed) {
 
 /// A size broken in the head alone; the rest stays, and its lengths with it.
 fn size(draft: &mut Draft, seed: &mut Seed) {
-    match seed.below(8) {
+    match seed.below(9) {
         0 => draft.n = seed.pick(&[0, 1, 2, 51, 52, 128, 255]),
-        1 => draft.flag = seed.pick(&[2, 3, 128, 255]),
+        1 => draft.flag = seed.pick(&[2, 3, 4, 5, 128, 255]),
         2 => (draft.n, draft.flag) = (50, 1),
         3 => draft.p = seed.pick(&[0, 26, 127, 128, 129, 255]),
-        4 => draft.p = (draft.n + draft.flag.min(1)) / 2 + 1,
+        4 => draft.p = (draft.n + draft.flag % 2) / 2 + 1,
         5 => draft.m = seed.pick(&[0, 65, 128, 255]),
         6 => (draft.n, draft.flag, draft.m) = seed.pick(&[(50, 0, 27), (49, 1, 27), (21, 0, 62), (26, 0, 51), (41, 1, 32), (20, 1, 65)]),
+        7 => (draft.n, draft.flag) = seed.pick(&[(4, 2), (7, 3), (10, 2), (24, 3), (26, 2), (28, 3), (48, 2), (50, 2), (8, 4), (9, 5)]),
         _ => (draft.n, draft.flag, draft.p, draft.m) = seed.pick(&[(50, 0, 25, 26), (49, 1, 25, 26), (20, 0, 10, 64), (3, 0, 1, 64), (3, 1, 2, 1)]),
     }
 }

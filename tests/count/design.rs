@@ -31,7 +31,10 @@ pub fn develop(head: &Head, objects: &[u8]) -> Vec<Block> {
         for shift in 0..head.n {
             let moved = |object: &u8| match *object {
                 INFINITY => head.n,
-                residue => (usize::from(residue) + shift) % head.n,
+                object => match head.field() {
+                    Some(field) => field.sum(object.into(), shift),
+                    None => (usize::from(object) + shift) % head.n,
+                },
             };
             blocks.push(Block {
                 left: initial[..head.p].iter().map(moved).collect(),

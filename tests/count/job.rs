@@ -1,6 +1,7 @@
 //! The job file: written from a draft, and taken apart by a cursor of its own, with the refusals in file order.
 
 use crate::design::{balance, develop, Balance, Block};
+use crate::field::Field;
 use std::collections::BTreeSet;
 
 /// How the fixed object is written in a block list.
@@ -31,8 +32,22 @@ pub struct Head {
 }
 
 impl Head {
+    /// Flags 0 and 2 are without the fixed object, 1 and 3 with it.
+    pub fn with_fixed(&self) -> bool {
+        self.flag == 1 || self.flag == 3
+    }
+
+    /// Flags 2 and 3 ask for the addition of a field.
+    pub fn field(&self) -> Option<&'static Field> {
+        if self.flag == 2 || self.flag == 3 {
+            Field::of(self.n)
+        } else {
+            None
+        }
+    }
+
     pub fn objects(&self) -> usize {
-        self.n + self.flag
+        self.n + usize::from(self.with_fixed())
     }
 
     pub fn blocks(&self) -> usize {
@@ -42,7 +57,7 @@ impl Head {
     /// All sizes kept. A direct call may ask with numbers of any size: each is bounded before it is added or multiplied.
     pub fn in_size(&self) -> bool {
         (3..=50).contains(&self.n)
-            && self.flag <= 1
+            && (self.flag <= 1 || self.flag <= 3 && self.field().is_some())
             && self.objects() <= 50
             && self.p >= 1
             && self.p <= self.objects() / 2
@@ -187,7 +202,7 @@ pub fn first_unclean(head: &Head, objects: &[u8]) -> Option<usize> {
         if index % (2 * head.p) == 0 {
             seen.clear();
         }
-        let known = usize::from(*object) < head.n || *object == INFINITY && head.flag == 1;
+        let known = usize::from(*object) < head.n || *object == INFINITY && head.with_fixed();
         if !known || !seen.insert(*object) {
             return Some(index);
         }

@@ -1,8 +1,11 @@
-//! The lists of papers 000 and 003 that are written in residues, as our copies print them.
+//! The lists of papers 000 and 003 that are written in residues, or over the field of nine elements, as our copies print them.
 //!
 //! Notation: `oo` is the fixed object, `|` parts the sides, `;` the initial blocks, and `x 1 2 4` after a block multiplies its residues
-//! by each of these in turn, as the papers' circled plus does. The appendix of 000 numbers its objects from 1; its last residue is 0 here.
+//! by each of these in turn, as the papers' circled plus does. Over the field `e5` is x to the power 5, x² + x + 2 being 0, `0` is 0, and the numbers after
+//! an `x` are powers too. The appendix of 000 numbers its objects from 1; its last residue is 0 here; over
+//! the field its number i is x to the power i - 1, and 9 is 0.
 
+use crate::field::Field;
 use crate::job::INFINITY;
 
 /// A printed list with the parameters printed beside it: v, b, r, p, L1, L2.
@@ -11,12 +14,17 @@ pub struct Printed {
     pub place: &'static str,
     pub n: u8,
     pub infinity: bool,
+    pub field: bool,
     pub list: &'static str,
     pub parameters: [i128; 6],
 }
 
 const fn printed(name: &'static str, place: &'static str, n: u8, infinity: bool, list: &'static str, parameters: [i128; 6]) -> Printed {
-    Printed { name, place, n, infinity, list, parameters }
+    Printed { name, place, n, infinity, field: false, list, parameters }
+}
+
+const fn over_nine(name: &'static str, place: &'static str, infinity: bool, list: &'static str, parameters: [i128; 6]) -> Printed {
+    Printed { name, place, n: 9, infinity, field: true, list, parameters }
 }
 
 pub const LISTS: &[Printed] = &[
@@ -96,22 +104,61 @@ pub const LISTS: &[Printed] = &[
         "0 14 | 1 4; 1 16 | 4 14; 4 0 | 14 16; 14 1 | 16 0; 16 4 | 0 1",
         [21, 105, 20, 2, 1, 2],
     ),
+    over_nine("000-2.3.2", "000, example 2.3.2", false, "e0 e2 e4 e6 | e1 e3 e5 e7", [9, 9, 8, 4, 3, 4]),
+    over_nine("000-2.6.2", "000, example 2.6.2", true, "oo e0 e2 e4 e6 | 0 e1 e3 e5 e7; 0 e0 e2 e4 e6 | oo e1 e3 e5 e7", [10, 18, 18, 5, 8, 10]),
+    over_nine("000-2.9b", "000, 2.9 (b)", true, "oo 0 e0 e4 | e1 e3 e5 e7 x 0 1 2 3; e0 e2 e4 e6 | e1 e3 e5 e7", [10, 45, 36, 4, 12, 16]),
+    over_nine("000-appendix-10", "000, design 10", false, "e0 e4 | e2 e6; e1 e5 | e3 e7", [9, 18, 8, 2, 1, 2]),
+    over_nine("000-appendix-12", "000, design 12", false, "e0 e2 e4 e6 | e1 e3 e5 e7", [9, 9, 8, 4, 3, 4]),
+    over_nine(
+        "000-appendix-13",
+        "000, design 13",
+        true,
+        "e0 e4 | oo e1; e1 e5 | oo e0; e0 e4 | e1 e5; e2 e6 | e3 e7; e2 e6 | e3 e7",
+        [10, 45, 18, 2, 2, 4],
+    ),
+    over_nine(
+        "000-appendix-15",
+        "000, design 15",
+        true,
+        "oo 0 e0 e4 | e1 e3 e5 e7; oo 0 e1 e5 | e2 e4 e6 e0; oo 0 e2 e6 | e3 e5 e7 e1; oo 0 e3 e7 | e4 e6 e0 e2; e0 e2 e4 e6 | e1 e3 e5 e7",
+        [10, 45, 36, 4, 12, 16],
+    ),
+    over_nine("000-appendix-16", "000, design 16", true, "oo e0 e2 e4 e6 | 0 e1 e3 e5 e7; 0 e0 e2 e4 e6 | oo e1 e3 e5 e7", [10, 18, 18, 5, 8, 10]),
+    over_nine("003-5.2", "003, section 5, example 2", false, "e0 e4 | e1 e5; e2 e5 | e3 e7", [9, 18, 8, 2, 1, 2]),
+    over_nine(
+        "003-6.2",
+        "003, section 6, example 2",
+        true,
+        "e0 e4 | oo e1; e1 e5 | oo e0; e0 e4 | e1 e5; e2 e5 | e3 e7 x 0 0",
+        [10, 45, 18, 2, 2, 4],
+    ),
 ];
 
-/// A list in the notation above: p, and the bytes as a job file has them.
+/// A list in the notation above, in residues: p, and the bytes as a job file has them.
 pub fn objects(n: u8, list: &str) -> (u8, Vec<u8>) {
+    let read = |word: &str| -> usize { word.parse().expect("a residue") };
+    blocks(list, "1", |word, multiplier| read(word) * read(multiplier) % usize::from(n))
+}
+
+/// A list over the field of nine elements.
+pub fn field_objects(list: &str) -> (u8, Vec<u8>) {
+    let field = Field::of(9).expect("a field");
+    let power = |word: &str| field.power(word.parse().expect("a power"));
+    blocks(list, "0", |word, multiplier| word.strip_prefix('e').map_or(0, |word| field.product(power(word), power(multiplier))))
+}
+
+/// Every block of a list, times its multipliers, or times this one where it has none.
+fn blocks(list: &str, once: &str, times: impl Fn(&str, &str) -> usize) -> (u8, Vec<u8>) {
     let mut bytes = Vec::new();
     let mut side = 0;
     for block in list.split(';') {
-        let (block, multipliers) = block.split_once('x').unwrap_or((block, "1"));
+        let (block, multipliers) = block.split_once('x').unwrap_or((block, once));
         let (left, right) = block.split_once('|').expect("a block has two sides");
-        let read = |side: &str| -> Vec<Option<u32>> { side.split_whitespace().map(|word| (word != "oo").then(|| word.parse().expect("a residue"))).collect() };
-        let (left, right) = (read(left), read(right));
+        let (left, right): (Vec<&str>, Vec<&str>) = (left.split_whitespace().collect(), right.split_whitespace().collect());
         assert_eq!(left.len(), right.len(), "sides of one size");
         side = left.len() as u8;
         for multiplier in multipliers.split_whitespace() {
-            let multiplier: u32 = multiplier.parse().expect("a multiplier");
-            bytes.extend(left.iter().chain(&right).map(|object| object.map_or(INFINITY, |residue| (residue * multiplier % u32::from(n)) as u8)));
+            bytes.extend(left.iter().chain(&right).map(|word| if *word == "oo" { INFINITY } else { times(word, multiplier) as u8 }));
         }
     }
     (side, bytes)

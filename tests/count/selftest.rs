@@ -4,6 +4,7 @@ use crate::balanced::{self, Design};
 use crate::compare;
 use crate::damage;
 use crate::design::{develop, pairs};
+use crate::field::{Field, SIZES};
 use crate::job::{self, Head, Job};
 use crate::listing::listing;
 use crate::papers::{self, LISTS, TABLE_1, TABLE_2_TOTALS};
@@ -37,6 +38,7 @@ pub fn selftest() -> usize {
     rounding(&mut figures);
     publishing(&mut figures);
     seeds(&mut figures);
+    fields(&mut figures);
     designs(&mut figures);
     figures.0
 }
@@ -85,6 +87,12 @@ fn examples(figures: &mut Figures) {
     figures.same("K, n 50", listing(&bytes_of("K-n50-flag0")), "refused 6 0\n".to_string());
     figures.same("K, n 50 and the fixed object", listing(&bytes_of("K-n50-flag1")), "refused 4 0\n".to_string());
     figures.same("K, empty", listing(&bytes_of("K-empty")), "refused 1 0\n".to_string());
+    figures.same("nine, over the field", line(&listing(&bytes_of("nine-field")), "design"), "design 9 9 8 4 3 4".to_string());
+    figures.same("nine, the same modulo 9", listing(&bytes_of("nine-field-modulo-9")), "refused 6 0\n".to_string());
+    figures.same("nine and the fixed object", line(&listing(&bytes_of("nine-field-fixed")), "design"), "design 10 18 18 5 8 10".to_string());
+    figures.same("nine and the fixed object, modulo 9", listing(&bytes_of("nine-field-fixed-modulo-9")), "refused 6 0\n".to_string());
+    figures.same("nine residues", line(&listing(&bytes_of("nine-residues")), "design"), "design 9 36 8 1 0 1".to_string());
+    figures.same("nine residues, over the field", listing(&bytes_of("nine-residues-over-the-field")), "refused 6 0\n".to_string());
     figures.same("K, a byte added", listing(&bytes_of("K-byte-added")), "refused 9 56\n".to_string());
 }
 
@@ -128,7 +136,10 @@ fn refusals(figures: &mut Figures) {
         ("refused-4", "refused 4 0\n"),
         ("refused-4-side", "refused 4 0\n"),
         ("refused-5", "refused 5 12\n"),
+        ("refused-4-field", "refused 4 0\n"),
+        ("refused-4-flag", "refused 4 0\n"),
         ("refused-5-infinity", "refused 5 11\n"),
+        ("refused-5-infinity-flag2", "refused 5 11\n"),
         ("refused-6", "refused 6 0\n"),
         ("refused-7", "refused 7 14\n"),
         ("refused-7-sum", "refused 7 14\n"),
@@ -210,6 +221,31 @@ fn seeds(figures: &mut Figures) {
     }
 }
 
+/// The fields: their sizes, sums with nothing carried, and that every element but 0 has an inverse.
+fn fields(figures: &mut Figures) {
+    figures.same("the fields", (0..=100).filter(|n| Field::of(*n).is_some()).collect::<Vec<usize>>(), SIZES.map(usize::from).to_vec());
+    let sums = [(9, 5, 7, 0), (9, 4, 4, 8), (9, 3, 6, 0), (8, 3, 5, 6), (16, 9, 3, 10), (25, 7, 18, 20), (27, 13, 14, 24), (32, 21, 11, 30), (49, 45, 10, 6)];
+    for (n, x, y, wanted) in sums {
+        figures.same("a sum", Field::of(n).expect("a field").sum(x, y), wanted);
+    }
+    let nine = Field::of(9).expect("a field");
+    figures.same("the powers of x", (0..8).map(|power| nine.power(power)).collect::<Vec<usize>>(), vec![1, 3, 7, 8, 2, 6, 5, 4]);
+    for n in SIZES {
+        let field = Field::of(n.into()).expect("a field");
+        let inverse = |x: usize| (1..usize::from(n)).any(|y| field.product(x, y) == 1);
+        figures.same("every element but 0 has an inverse", (1..n.into()).all(inverse), true);
+        for flag in [2, 3] {
+            figures.same("field pairs", is_balanced(&balanced::field_pairs(n, flag)), true);
+            let mut seed = Seed::new(4, 4);
+            for p in 1..=(n + flag % 2) / 2 {
+                if let Some(design) = balanced::over_field(n, flag, p, &mut seed) {
+                    figures.same("over a field", is_balanced(&design), true);
+                }
+            }
+        }
+    }
+}
+
 fn is_balanced(design: &Design) -> bool {
     let head = Head { n: design.n.into(), flag: design.flag.into(), p: design.p.into(), m: design.m() };
     head.in_size() && crate::design::balance(head.objects(), &develop(&head, &design.objects)).is_some()
@@ -244,5 +280,5 @@ fn designs(figures: &mut Figures) {
     figures.same("50 residues, each difference once", is_balanced(&balanced::differences_once(50)), false);
     let unsound: Vec<&str> =
         LISTS.iter().filter(|list| listing(&stored::list_job(list).file()).starts_with("refused")).map(|list| list.name).collect();
-    figures.same("printed lists that are refused", unsound, vec!["000-2.9.2", "000-appendix-24"]);
+    figures.same("printed lists that are refused", unsound, vec!["000-2.9.2", "000-appendix-24", "003-5.2", "003-6.2"]);
 }

@@ -1,6 +1,7 @@
 //! The files that the repository stores: the examples of the request, the trials, and what the bench must print for each.
 
 use crate::balanced::{self, Design};
+use crate::field::SIZES;
 use crate::job::Draft;
 use crate::listing::listing;
 use crate::papers::{self, Printed, LISTS};
@@ -83,8 +84,22 @@ pub fn examples() -> Vec<Example> {
         "three objects of 1/3 each, restrained to 1 count: rounded alone they would add to 99 hundredths",
         job(3, 0, "0 | 1", 7, 1, vec![0, 0, 0]).file(),
     ));
+    // Ours, over nine elements: the same blocks by the addition of the field and modulo 9.
+    let nine = |flag: u8, list: &str, number: u64| Draft { flag, ..seeded(9, flag, list, number) }.file();
+    let (field, fixed, residues) = (NINE_FIELD, NINE_FIELD_FIXED, NINE_RESIDUES);
+    all.push(example("nine-field", "the field of nine elements, four a side (000, 2.3.2): balanced", nine(2, field, 13)));
+    all.push(example("nine-field-modulo-9", "the same blocks modulo 9: unbalanced", nine(0, field, 13)));
+    all.push(example("nine-field-fixed", "the field of nine elements and the fixed object, five a side (000, 2.6.2): balanced", nine(3, fixed, 14)));
+    all.push(example("nine-field-fixed-modulo-9", "the same blocks modulo 9: unbalanced", nine(1, fixed, 14)));
+    all.push(example("nine-residues", "nine residues, one a side, every difference once: balanced", nine(0, residues, 15)));
+    all.push(example("nine-residues-over-the-field", "the same blocks over the field, where 1 and 2 are opposite: unbalanced", nine(2, residues, 15)));
     all
 }
+
+/// The even powers of x against the odd ones, x² + x + 2 being 0, in numbers; the same with 0 and the fixed object; and the differences modulo 9.
+pub const NINE_FIELD: &str = "1 7 2 5 | 3 8 6 4";
+pub const NINE_FIELD_FIXED: &str = "oo 1 7 2 5 | 0 3 8 6 4; 0 1 7 2 5 | oo 3 8 6 4";
+const NINE_RESIDUES: &str = "0 | 1; 0 | 2; 0 | 3; 0 | 4";
 
 /// The differences 1 to 25 of 50 residues: a job of 1,250 blocks.
 fn differences_once_50() -> Draft {
@@ -124,11 +139,10 @@ fn over(design: &Design, restraint: u64, sum: i64, readings: Readings) -> Draft 
 
 /// A printed list as a job: restrained by some of its objects, other readings for each list.
 pub fn list_job(list: &Printed) -> Draft {
-    let (p, objects) = papers::objects(list.n, list.list);
     let number = LISTS.iter().position(|other| other.name == list.name).expect("a list of the papers") as u64;
-    let design = Design { kind: "printed", n: list.n, flag: list.infinity.into(), p, objects };
+    let design = balanced::over_list(list);
     let mut seed = Seed::new(2000, number);
-    let v = u32::from(design.n + design.flag);
+    let v = u32::from(design.v());
     let restraint = 3 | seed.next() & (u64::MAX >> (64 - v)) & if number % 2 == 0 { 0 } else { u64::MAX };
     over(&design, restraint, seed.between(-2_000, 2_000), small(number))
 }
@@ -157,6 +171,19 @@ fn at_the_ends() -> Vec<Example> {
         places.iter().for_each(|(place, byte)| bytes[*place] = *byte);
         bytes
     };
+    // Each field with the fixed object and without it, some objects a side.
+    for (number, n) in SIZES.into_iter().enumerate() {
+        for flag in [2, 3] {
+            let mut seed = Seed::new(9, n.into());
+            let made = (2..=4).rev().find_map(|p| balanced::over_field(n, flag, p, &mut seed));
+            let design = made.unwrap_or_else(|| balanced::field_pairs(n, flag));
+            let about = format!("the field of {n} elements{}", if flag == 3 { " and the fixed object" } else { "" });
+            all.push(example(&format!("field-{n}-flag{flag}"), &about, over(&design, 5, 17, small(20 + number as u64)).file()));
+        }
+    }
+    let fifty = over(&balanced::field_pairs(49, 3), 1 << 49 | 1, 9, extreme(9));
+    all.push(example("field-49-objects-50", "49 elements and the fixed object, 1,225 blocks", fifty.file()));
+    let in_nine = |flag: u8, objects: Vec<u8>| Draft { flag, objects, ..seeded(9, 2, "0 | 1", 22) }.file();
     let fixed_twice = Draft { objects: vec![255, 255], ..seeded(3, 1, "oo | 0", 20) };
     all.extend([
         example("refused-1-start", "two bytes of a field's start, its tag wrong", A[..7].iter().copied().chain([9, 9]).collect()),
@@ -166,7 +193,10 @@ fn at_the_ends() -> Vec<Example> {
         example("refused-4", "a broken size in a file of seven bytes", changed(&[(5, 3)])[..7].to_vec()),
         example("refused-4-side", "129 objects a side", changed(&[(5, 129)])),
         example("refused-5", "an object twice, and one out of range after it", changed(&[(12, 4), (13, 5)])),
+        example("refused-4-field", "ten elements with the flag 2: no such field", changed(&[(3, 10), (4, 2)])),
+        example("refused-4-flag", "the flag 4 with nine elements", in_nine(4, vec![0, 1])),
         example("refused-5-infinity", "the fixed object twice", fixed_twice.file()),
+        example("refused-5-infinity-flag2", "the fixed object with the flag 2", in_nine(2, vec![0, 255])),
         example("refused-6", "unbalanced, and a restraint with no object", Draft { restraint: 0, ..seeded(4, 0, "0 | 1", 21) }.file()),
         example("refused-7", "a restraint with an object too many, and a reading out of range", changed(&[(24, 32), (36, 127)])),
         example("refused-7-sum", "a sum out of its range", changed(&[(25, 128)])),
@@ -194,7 +224,8 @@ pub fn list_rows() -> Vec<String> {
         let printed = printed.join(" ");
         let counted = first.strip_prefix("design ").unwrap_or(first);
         let verdict = if counted == printed { "the same" } else { printed.as_str() };
-        let residues = if list.infinity { format!("{} and ∞", list.n) } else { list.n.to_string() };
+        let kind = if list.field { "the field of " } else { "" };
+        let residues = format!("{kind}{}{}", list.n, if list.infinity { " and ∞" } else { "" });
         rows.push(format!("| {} | {} | {} | {} | {} |", list.name, list.place, residues, counted, verdict));
     }
     rows
@@ -205,8 +236,8 @@ fn readme() -> String {
         "# The examples\n\n\
          Each `.job` is a job file; the `.listing` beside it is what `bench` prints for it, byte for byte.\n\
          Both come from the independent count in `tests/count`, which shares nothing with the proved code.\n\
-         B to G and J have small seeded readings, and objects 0 and 1 as restraint. Two members add up even where each is rounded\n\
-         alone; L has three.\n\n\
+         B to G, J and those over nine elements have small seeded readings, and objects 0 and 1 as restraint. Two members add up even\n\
+         where each is rounded alone; L has three.\n\n\
          | File | Shows | First line |\n|---|---|---|\n",
     );
     for example in examples() {

@@ -35,7 +35,7 @@ impl Job {
     }
 
     fn objects(&self) -> usize {
-        self.head.n + self.head.flag
+        self.head.n + self.head.flag % 2
     }
 }
 
@@ -49,6 +49,16 @@ fn pairs(n: usize, flag: usize, times: usize) -> Job {
         }
     }
     Job::new(n, flag, 1, blocks)
+}
+
+/// One object a side over the field of q² elements, q odd: of each two opposite differences one; with the fixed object too.
+fn field_pairs(q: usize, flag: usize) -> Job {
+    let opposite = |d: usize| (q - d % q) % q + (q - d / q) % q * q;
+    let mut blocks: Vec<u8> = (1..q * q).filter(|d| *d < opposite(*d)).flat_map(|d| [0, d as u8]).collect();
+    if flag == 3 {
+        blocks.extend([255, 0]);
+    }
+    Job::new(q * q, flag, 1, blocks)
 }
 
 /// Squares against the other residues of a prime n = 3 modulo 4; with the fixed object and 0 too.
@@ -158,4 +168,7 @@ fn main() {
     table("More blocks of 13 objects", [1, 2, 4, 8, 10].map(|times| pairs(13, 0, times)).into());
     table("More objects, one a side, each pair once", [5, 9, 17, 25, 33, 41, 49].map(|n| pairs(n, 0, 1)).into());
     table("More objects, about half of them a side, one initial block", [3, 7, 11, 19, 23, 31, 43, 47].map(|n| squares(n, 0)).into());
+    let nine = Job::new(9, 2, 4, vec![1, 7, 2, 5, 3, 8, 6, 4]);
+    let ten = Job::new(9, 3, 5, vec![255, 1, 7, 2, 5, 0, 3, 8, 6, 4, 0, 1, 7, 2, 5, 255, 3, 8, 6, 4]);
+    table("Over the fields of 9, 25 and 49 elements", vec![nine, ten, field_pairs(5, 2), field_pairs(7, 2), field_pairs(7, 3)]);
 }

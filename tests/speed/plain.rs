@@ -22,15 +22,62 @@ pub struct Parameters {
 pub type Refusal = (u8, usize);
 type Table = [[u64; 50]; 50];
 
+impl Head {
+    fn objects(self) -> usize {
+        self.n + self.flag % 2
+    }
+}
+
+/// The card of a field of N elements, A = N * N entries: digits added modulo q.
+const fn card<const N: usize, const A: usize>(q: usize) -> [u8; A] {
+    let mut card = [0; A];
+    let mut at = 0;
+    while at < A {
+        let (mut x, mut s, mut place, mut sum) = (at / N, at % N, 1, 0);
+        while place < N {
+            sum += (x % q + s % q) % q * place;
+            (x, s, place) = (x / q, s / q, place * q);
+        }
+        card[at] = sum as u8;
+        at += 1;
+    }
+    card
+}
+
+const CARD_8: [u8; 64] = card::<8, 64>(2);
+const CARD_9: [u8; 81] = card::<9, 81>(3);
+const CARD_16: [u8; 256] = card::<16, 256>(2);
+const CARD_25: [u8; 625] = card::<25, 625>(5);
+const CARD_27: [u8; 729] = card::<27, 729>(3);
+const CARD_32: [u8; 1024] = card::<32, 1024>(2);
+const CARD_49: [u8; 2401] = card::<49, 2401>(7);
+
+fn plus(h: Head, x: usize, shift: usize) -> usize {
+    if h.flag < 2 {
+        return (x + shift) % h.n;
+    }
+    let at = x * h.n + shift;
+    match h.n {
+        8 => CARD_8[at].into(),
+        9 => CARD_9[at].into(),
+        16 => CARD_16[at].into(),
+        25 => CARD_25[at].into(),
+        27 => CARD_27[at].into(),
+        32 => CARD_32[at].into(),
+        _ => CARD_49[at].into(),
+    }
+}
+
 fn sized(h: Head) -> bool {
-    3 <= h.n && h.n <= 50 && h.flag <= 1 && h.n + h.flag <= 50 && 1 <= h.p && 2 * h.p <= h.n + h.flag && 1 <= h.m && h.m <= 64 && h.m * h.n <= 1300
+    3 <= h.n && h.n <= 50 && h.flag <= 3 && (h.flag < 2 || [8, 9, 16, 25, 27, 32, 49].contains(&h.n)) && h.objects() <= 50
+        && 1 <= h.p && 2 * h.p <= h.objects() && 1 <= h.m && h.m <= 64 && h.m * h.n <= 1300
 }
 
 /// The first byte of a block list that is out of range or was already in its block.
 fn offender(h: Head, blocks: &[u8]) -> usize {
     for i in 0..blocks.len() {
         let x = blocks[i];
-        let fits = if x == 255 { h.flag == 1 } else { (x as usize) < h.n };
+        let fits = if x == 255 { h.flag % 2 == 1 } else { (x as usize) < h.n };
         let start = i - i % (2 * h.p);
         if !fits || blocks[start..i].contains(&x) {
             return i;
@@ -42,7 +89,7 @@ fn offender(h: Head, blocks: &[u8]) -> usize {
 fn side_word(h: Head, shift: usize, side: &[u8]) -> u64 {
     let mut word = 0;
     for &byte in side {
-        let object = if byte == 255 { h.n } else { (byte as usize + shift) % h.n };
+        let object = if byte == 255 { h.n } else { plus(h, byte.into(), shift) };
         word += 1 << object;
     }
     word
@@ -115,7 +162,7 @@ fn even(company: &Table, opposition: &Table, v: usize) -> bool {
 
 /// The parameters of developed words that are balanced.
 fn judge_words(h: Head, words: &[u64]) -> Result<Parameters, Refusal> {
-    let (v, b) = (h.n + h.flag, h.m * h.n);
+    let (v, b) = (h.objects(), h.m * h.n);
     let (mut company, mut opposition): (Table, Table) = ([[0; 50]; 50], [[0; 50]; 50]);
     for block in words[..2 * b].chunks_exact(2) {
         add_side(block[0], block[1], &mut company, &mut opposition);
@@ -224,7 +271,7 @@ fn largest(q: u64, d: u64) -> u64 {
 /// Works a job file out into lent rooms.
 pub fn solve(bytes: &[u8], words: &mut [u64], values: &mut [i64], deviations: &mut [i64]) -> Result<Solved, Refusal> {
     let Held { head, third, set, sum } = fields(bytes)?;
-    let (v, b) = (head.n + head.flag, head.m * head.n);
+    let (v, b) = (head.objects(), head.m * head.n);
     let mut readings = [0i32; 1300];
     for (k, y) in bytes[third + 22..].chunks_exact(4).enumerate() {
         readings[k] = i32::from_be_bytes([y[0], y[1], y[2], y[3]]);

@@ -9,4 +9,5 @@ pub mod Numbers
 pub mod Signs
 pub mod Filling
 pub mod Writing
+pub mod Groups
 pub mod Examples

@@ -2,3 +2,4 @@
 pub mod Ranges
 pub mod Buffers
 pub mod Tables
+pub mod Groups

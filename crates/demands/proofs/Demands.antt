@@ -1,15 +1,17 @@
--- What the customer signs: the three demands, each for every byte string and for every direct call, and the request on writing jobs. Each is a record of
--- specs/, with a field for each clause of the customer's sentence; here stand the proofs, by the laws of the definitions.
+-- What the customer signs: the three demands, each for every byte string and for every direct call, and the requests on writing jobs and
+-- on fields. Each is a record of specs/, with a field for each clause of the customer's sentence; here stand the proofs, by the laws of the definitions.
 --     demand-1, demand-1-calls       specs/Demand1, specs/Calls      refused by number, place and order, and nothing lent is changed
 --     demand-2, demand-2-calls       specs/Demand2, specs/Answers    accepted exactly if balanced, and the paper's fractions
 --     demand-3, demand-3-calls       specs/Demand3                   the exact values are best, and the published ones near
 --     writing-jobs, writing-files    specs/Writing                   each accepted job has exactly one file (02, P1)
+--     designs-over-fields, the-fields    specs/Fields                what the addition of a field is, and what is refused (02, P4)
 -- Assumes nothing.
 use mathlib.Core.List.{List}
 use mathlib.Core.Path.{refl, ap}
 use Prim.Native.Nat.{ℕ}
 use lib.ListN.{length, drop}
 use lib.Seq.{take-at, drop-at}
+use Rattle.records.specs.declared.Head.{Head}
 use Rattle.records.specs.declared.Verdict.{Verdict}
 use Rattle.meaning.specs.File.{readVerdict, solveVerdict}
 use Rattle.meaning.specs.Text.{textUnder, textOf}
@@ -22,6 +24,7 @@ use Rattle.demands.specs.Calls.{Demand1Calls}
 use Rattle.demands.specs.Demand2.{Demand2}
 use Rattle.demands.specs.Answers.{Demand2Calls}
 use Rattle.demands.specs.Demand3.{Demand3, Demand3Calls}
+use Rattle.demands.specs.Fields.{OverFields, TheFields}
 use Rattle.demands.specs.Writing.{WritingJobs, WritingFiles}
 use Rattle.demands.proofs.Order.{file-order, rooms-last, reading-ends, solving-ends, keeps-position, fields-led}
 use Rattle.demands.proofs.Calls.{refusing}
@@ -29,6 +32,7 @@ use Rattle.demands.proofs.Balance.{file-exactly, file-unbalanced, file-
 use Rattle.demands.proofs.Papers.{papers-fractions}
 use Rattle.demands.proofs.Answers.{answering, three-written}
 use Rattle.demands.proofs.Published.{least-squares}
+use Rattle.demands.proofs.Fields.{over-fields, listed-fields}
 use Rattle.demands.proofs.Writing.{jobs-written, files-written}
 
 pub demand-1 : (s : List ℕ) → Demand1 s
@@ -90,3 +94,9 @@ writing-jobs = jobs-written
 
 pub writing-files : (s : List ℕ) → WritingFiles s
 writing-files = files-written
+
+pub designs-over-fields : (h : Head) → OverFields h
+designs-over-fields = over-fields
+
+pub the-fields : TheFields
+the-fields = listed-fields

@@ -11,7 +11,7 @@ use lib.Signed.{leZ, ltZ}
 use Rattle.algebra.specs.Ranges.{eqZ, sum, sumℕ, firstFrom}
 use Rattle.records.specs.declared.Head.{Head}
 use Rattle.records.specs.declared.Verdict.{Verdict}
-use Rattle.meaning.specs.Design.{sized, occ, plus, left, right, company, opposition, balanced, beta}
+use Rattle.meaning.specs.Design.{fieldPrime, sized, occ, digitSum, plus, left, right, company, opposition, balanced, beta}
 use Rattle.meaning.specs.Analysis.{total, members, restrained, numeratorOf, denominatorOf}
 use Rattle.meaning.specs.Publishing.{rank, shortfall, published}
 use Rattle.meaning.specs.Fractions.{Fraction, _+ᶠ_, squared, summed, valuesAlong, deviationUnder, squaresUnder}
@@ -167,17 +167,17 @@ abbrev pub refusalRows : List Row
 refusalRows = fileRows ++ callRows ++ roomRows
 
 pub refusal-rows : every refusalRows ≡ true
-unfolding sized occ plus left right company opposition balanced offender farReading big numbersAt slices contents jobVerdict rooms fieldVerdict fields
+unfolding fieldPrime sized occ digitSum plus left right company opposition balanced offender farReading big numbersAt slices contents jobVerdict rooms fieldVerdict fields
     readVerdict solveVerdict word wordAt writtenOver sumℕ firstFrom
 refusal-rows = refl
 
 pub spread-rows : every spreadRows ≡ true
-unfolding occ plus left right company opposition beta total members restrained numeratorOf denominatorOf big numbersAt
+unfolding occ fieldPrime digitSum plus left right company opposition beta total members restrained numeratorOf denominatorOf big numbersAt
     summed valuesAlong deviationUnder squaresUnder sum sumℕ
 spread-rows = refl
 
 pub published-rows : every publishedRows ≡ true
-unfolding occ plus left right company opposition beta total members restrained numeratorOf denominatorOf rank shortfall published big numbersAt
+unfolding occ fieldPrime digitSum plus left right company opposition beta total members restrained numeratorOf denominatorOf rank shortfall published big numbersAt
     summed valuesAlong deviationUnder squaresUnder sum sumℕ
 published-rows = refl
 

@@ -4,7 +4,7 @@
 use mathlib.Core.Bool.{true}
 use mathlib.Core.Logic.{_⊎_, _↔_}
 use mathlib.Core.Path.{_≡_}
-use Prim.Native.Nat.{ℕ, _+_, _-_, _*_, _^_, _≤_, _<_}
+use Prim.Native.Nat.{ℕ, _+_, _-_, _*_, _%_, _^_, _≤_, _<_}
 use lib.IntN.{ℤ, pos, natAbs, _+ℤ_, _-ℤ_, _*ℤ_}
 use Rattle.algebra.specs.Ranges.{sum, sumℕ}
 use Rattle.algebra.specs.Tables.{entry}
@@ -73,8 +73,8 @@ module _ (j : Job) where
   pub record PapersParameters : Type 0 where
     -- every two different objects share a side L1 times and oppose L2 times
     pub lambdas : Balanced h d (P .l1) (P .l2)
-    -- v, b and p are the head's; a block has p objects a side
-    pub v-is : P .v ≡ h .n + h .flag
+    -- v, b and p are the head's, ∞ being one object more where the flag is odd; a block has p objects a side
+    pub v-is : P .v ≡ h .n + h .flag % 2
     pub b-is : P .b ≡ h .m * h .n
     pub p-is : P .p ≡ h .p
     pub sides : (k : ℕ) → k < b j → (sumℕ (v j) (λ i. occ i (left h d k)) ≡ P .p) × (sumℕ (v j) (λ i. occ i (right h d k)) ≡ P .p)

@@ -35,7 +35,7 @@ long s at len = test (eqb (big s (at + 1) 2) len) 3 at
 -- ---- the parts of a job
 
 module _ (j : Job) where
-  -- no object is out of range, is ∞ with flag 0, or was already in its block, either side
+  -- no object is out of range, is ∞ with flag 0 or 2, or was already in its block, either side
   abbrev pub blocksClean : Bool
   blocksClean = eqb (offender (j .head) (j .initial)) (length (j .initial))
 

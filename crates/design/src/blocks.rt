@@ -1,5 +1,6 @@
 // The list of the initial blocks: why it is refused. A block is clean where every byte names an object of the design and none stands twice in it.
 use crate::sizes::sized;
+use crate::sizes::with_fixed;
 use records::Head;
 use records::Verdict;
 ghost use mathlib.Core.Path.{_≡_};
@@ -37,7 +38,7 @@ fn in_range(head: Head, byte: u8) -> bool
     if byte < 255 {
         (byte as usize) < head.n
     } else {
-        head.flag == 1
+        with_fixed(head)
     }
 }
 

@@ -6,11 +6,13 @@ use records::Verdict;
 use verdicts::is_refused;
 ghost use mathlib.Core.Path.{_≡_};
 ghost use mathlib.Core.List.{map};
-ghost use Prim.Native.Nat.{_+_, _*_, _≤_, _<_};
-ghost use lib.ListN.{length};
+ghost use mathlib.Core.Bool.{true};
+ghost use Prim.Native.Nat.{ℕ, _+_, _*_, _≤_, _<_};
+ghost use lib.ListN.{length, getD};
 ghost use Rattle.algebra.specs.Buffers.{over};
-ghost use Rattle.meaning.specs.Design.{listLength, moved};
-ghost use Rattle.meaning.specs.Calls.{word, wordAt, developVerdict, developAfter, initialVerdict, initialWords};
+ghost use Rattle.meaning.specs.Design.{moved};
+ghost use Rattle.meaning.specs.Refusals.{accepted, inRange};
+ghost use Rattle.meaning.specs.Calls.{word, wordAt, designVerdict, developVerdict, developAfter, initialVerdict, initialWords};
 ghost use Rattle.laws.specs.Fits.{Fits};
 
 // Develops every initial block into the words: left word, right word, next shift. Later words stay.
@@ -56,7 +58,8 @@ pub fn develop_initial(head: Head, blocks: &[u8], j: usize, words: &mut [u64]) -
 
 // A side as a word, at a shift.
 fn side_word(head: Head, shift: usize, side: &[u8]) -> u64
-    requires { ⌜ (Fits head) × (shift < head .n) × (length (now side) ≤ 25) ⌝ }
+    requires { ⌜ (Fits head) × (shift < head .n) × (length (now side) ≤ 25)
+        × ((i : ℕ) → i < length (now side) → inRange head (getD (now side) i 0) ≡ true) ⌝ }
     ensures { λ r. ⌜ r ≡ word (map (moved head shift) (now (side .entry))) ⌝ }
 {
     let mut sum: u64 = 0;
@@ -68,7 +71,7 @@ fn side_word(head: Head, shift: usize, side: &[u8]) -> u64
 
 // Writes the words of initial block j, shift after shift, to the front of a part of the words.
 fn write_shifts(head: Head, j: usize, blocks: &[u8], part: &mut [u64])
-    requires { ⌜ (Fits head) × (j < head .m) × (length (now blocks) ≡ listLength head) × (2 * head .n ≤ length (now part)) ⌝ }
+    requires { ⌜ (designVerdict head (now blocks) ≡ accepted) × (j < head .m) × (2 * head .n ≤ length (now part)) ⌝ }
     ensures { λ _. ⌜ now (part .exit) ≡ over (2 * head .n) (λ c. wordAt head (now (blocks .entry)) (2 * head .n * j + c))
         (now (part .entry)) ⌝ }
 {
@@ -85,7 +88,7 @@ fn write_shifts(head: Head, j: usize, blocks: &[u8], part: &mut [u64])
 
 // Writes the words of all initial blocks to the front of the words, and lends each block's part on.
 fn write_words(head: Head, blocks: &[u8], words: &mut [u64])
-    requires { ⌜ (Fits head) × (length (now blocks) ≡ listLength head) × (2 * (head .m * head .n) ≤ length (now words)) ⌝ }
+    requires { ⌜ (designVerdict head (now blocks) ≡ accepted) × (2 * (head .m * head .n) ≤ length (now words)) ⌝ }
     ensures { λ _. ⌜ now (words .exit) ≡ over (2 * (head .m * head .n)) (wordAt head (now (blocks .entry))) (now (words .entry)) ⌝ }
 {
     let n = head.n;

@@ -91,10 +91,12 @@ fits h e =
     let g = both _ _ (f .0) in
     let i = both _ _ (g .0) in
     let j = both _ _ (i .0) in
+    let k = both _ _ (j .0) in
     record {
-      n-least = leb-true _ _ (j .0);
-      n-most = leb-true _ _ (j .1);
-      flag-most = leb-true _ _ (i .1);
+      n-least = leb-true _ _ (k .0);
+      n-most = leb-true _ _ (k .1);
+      flag-most = leb-true _ _ (j .1);
+      has-addition = i .1;
       objects-most = leb-true _ _ (g .1);
       p-least = leb-true _ _ (f .1);
       sides-fit = leb-true _ _ (d .1);
@@ -111,6 +113,7 @@ sized-yes h f =
       le-leb _ _ (f .n-least),
       le-leb _ _ (f .n-most),
       le-leb _ _ (f .flag-most),
+      f .has-addition,
       le-leb _ _ (f .objects-most),
       le-leb _ _ (f .p-least),
       le-leb _ _ (f .sides-fit),

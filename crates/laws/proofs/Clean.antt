@@ -19,7 +19,7 @@ use borrow.Author.Tests.{eq-eqb, ne-eqb, eqb-true, ltb-true, ltb-false, not-fals
 use Rattle.algebra.specs.Ranges.{sumℕ}
 use Rattle.algebra.proofs.Tests.{first-before}
 use Rattle.records.specs.declared.Head.{Head}
-use Rattle.meaning.specs.Design.{objects, withFixed, blocks, occ, plus, moved, left, right}
+use Rattle.meaning.specs.Design.{objects, withFixed, hasAddition, blocks, occ, plus, moved, left, right}
 use Rattle.meaning.specs.Refusals.{inRange, offends, offender}
 use Rattle.meaning.proofs.Addition.{plus-closed, plus-injective}
 use Rattle.laws.proofs.Chains.{Sound}
@@ -96,14 +96,14 @@ module _ (h : Head) (d : List ℕ) (s : Sound h d) where
       subst (λ (x : ℕ). inRange h x ≡ true) (sym (part-byte d a len i m′)) (in-range (a + i) (omega arith))
 
 -- ---- a byte in range is moved to an object, and two bytes to two
-module _ (h : Head) (s : ℕ) (sl : s < h .n) where
-  -- a byte in range that is not 255 is a residue
-  residue : (x : ℕ) → (x ≡ 255 → ⊥) → inRange h x ≡ true → x < h .n
-  residue x e t = ltb-true x (h .n) (subst (λ (u : Bool). cond u (withFixed h) (ltb x (h .n)) ≡ true) (ne-eqb x 255 e) t)
+module _ (h : Head) (s : ℕ) (ad : hasAddition h ≡ true) (sl : s < h .n) where
+  -- a byte in range that is not 255 is an element
+  pub element : (x : ℕ) → (x ≡ 255 → ⊥) → inRange h x ≡ true → x < h .n
+  element x e t = ltb-true x (h .n) (subst (λ (u : Bool). cond u (withFixed h) (ltb x (h .n)) ≡ true) (ne-eqb x 255 e) t)
 
   -- where 255 is in range the fixed object takes part
-  fixed-there : (x : ℕ) → x ≡ 255 → inRange h x ≡ true → h .flag ≡ 1
-  fixed-there x e t = eqb-true (h .flag) 1 (subst (λ (u : Bool). cond u (withFixed h) (ltb x (h .n)) ≡ true) (eq-eqb x 255 e) t)
+  fixed-there : (x : ℕ) → x ≡ 255 → inRange h x ≡ true → h .flag % 2 ≡ 1
+  fixed-there x e t = eqb-true (h .flag % 2) 1 (subst (λ (u : Bool). cond u (withFixed h) (ltb x (h .n)) ≡ true) (eq-eqb x 255 e) t)
 
   -- 255 stays the fixed object
   pub moved-fixed : (x : ℕ) → x ≡ 255 → moved h s x ≡ h .n
@@ -119,7 +119,7 @@ module _ (h : Head) (s : ℕ) (sl : s < h .n) where
     where
       go : Dec (x ≡ 255) → moved h s x < objects h
       go (yes e) = omega (arith, moved-fixed x e, fixed-there x e t)
-      go (no e) = omega (arith, moved-other x e, plus-closed h x s (residue x e t) sl)
+      go (no e) = omega (arith, moved-other x e, plus-closed h ad x s (element x e t) sl)
 
   -- two bytes in range are moved to two objects
   pub moved-injective : (x y : ℕ) → inRange h x ≡ true → inRange h y ≡ true → moved h s x ≡ moved h s y → x ≡ y
@@ -127,13 +127,13 @@ module _ (h : Head) (s : ℕ) (sl : s < h .n) where
     where
       go : Dec (x ≡ 255) → Dec (y ≡ 255) → x ≡ y
       go (yes e) (yes f) = omega arith
-      go (yes e) (no f) = omega (arith, moved-fixed x e, moved-other y f, plus-closed h y s (residue y f u) sl)
-      go (no e) (yes f) = omega (arith, moved-fixed y f, moved-other x e, plus-closed h x s (residue x e t) sl)
-      go (no e) (no f) = plus-injective h x y s (residue x e t) (residue y f u) sl (sym (moved-other x e) ∙ q ∙ moved-other y f)
+      go (yes e) (no f) = omega (arith, moved-fixed x e, moved-other y f, plus-closed h ad y s (element y f u) sl)
+      go (no e) (yes f) = omega (arith, moved-fixed y f, moved-other x e, plus-closed h ad x s (element x e t) sl)
+      go (no e) (no f) = plus-injective h ad x y s (element x e t) (element y f u) sl (sym (moved-other x e) ∙ q ∙ moved-other y f)
 
 -- ---- the place of a block: initial block and shift
 
--- where there is a block there is a residue
+-- where there is a block there is an element
 pub some-shift : (h : Head) (k : ℕ) → k < blocks h → 0 < h .n
 some-shift h k l = go (h .n) l
   where
@@ -158,14 +158,14 @@ module _ (h : Head) (d : List ℕ) (s : Sound h d) (k : ℕ) (l : k < blocks h) 
   pub left-objects : Each (λ x. x < objects h) (left h d k)
   unfolding left
   left-objects = each-map (λ x. inRange h x ≡ true) (λ x. x < objects h) (moved h (k % h .n)) (take (h .p) (drop (2 * h .p * (k / h .n)) d))
-      (moved-range h (k % h .n) (shift-below h k l))
+      (moved-range h (k % h .n) (s .sizes .has-addition) (shift-below h k l))
       (part-range h d s (2 * h .p * (k / h .n)) (h .p) (omega (arith, inside)))
 
   -- so are those of the right
   pub right-objects : Each (λ x. x < objects h) (right h d k)
   unfolding right
   right-objects = each-map (λ x. inRange h x ≡ true) (λ x. x < objects h) (moved h (k % h .n)) (take (h .p) (drop (2 * h .p * (k / h .n) + h .p) d))
-      (moved-range h (k % h .n) (shift-below h k l))
+      (moved-range h (k % h .n) (s .sizes .has-addition) (shift-below h k l))
       (part-range h d s (2 * h .p * (k / h .n) + h .p) (h .p) (omega (arith, inside)))
 
   -- the left has p objects
@@ -204,5 +204,6 @@ module _ (h : Head) (d : List ℕ) (s : Sound h d) (k : ℕ) (l : k < blocks h) 
   -- no object stands twice in a block, be it on one side or on both
   pub block-once : (i : ℕ) → occ i (left h d k) + occ i (right h d k) ≤ 1
   block-once i = subst (λ (z : ℕ). z ≤ 1) (ap (occ i) (sym block-halves) ∙ occ-append i (left h d k) (right h d k))
-      (occ-once (λ x. inRange h x ≡ true) (moved h (k % h .n)) (moved-injective h (k % h .n) (shift-below h k l)) i (initial h d (k / h .n))
+      (occ-once (λ x. inRange h x ≡ true) (moved h (k % h .n)) (moved-injective h (k % h .n) (s .sizes .has-addition) (shift-below h k l)) i
+      (initial h d (k / h .n))
       (part-range h d s (2 * h .p * (k / h .n)) (2 * h .p) inside) (λ x. initial-once h d s (k / h .n) x (initial-below h k l)))

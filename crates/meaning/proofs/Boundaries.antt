@@ -13,7 +13,7 @@ use Rattle.algebra.specs.Buffers.{over}
 use Rattle.algebra.specs.Ranges.{sum, sumℕ, firstFrom}
 use Rattle.records.specs.declared.Head.{Head}
 use Rattle.records.specs.declared.Judged.{Judged}
-use Rattle.meaning.specs.Design.{sized, occ, plus, left, right, company, opposition, balanced, beta}
+use Rattle.meaning.specs.Design.{fieldPrime, sized, occ, digitSum, plus, left, right, company, opposition, balanced, beta}
 use Rattle.meaning.specs.Analysis.{
   total,
   members,
@@ -136,6 +136,18 @@ sizeRows =
     ∷ refuses (sizes (head 49 1 25 26)) 0 0
     ∷ refuses (sizes (head 50 1 25 26)) 4 0
     ∷ refuses (sizes (head 40 2 1 1)) 4 0
+    ∷ refuses (sizes (head 7 3 1 1)) 4 0
+    ∷ refuses (sizes (head 48 2 1 1)) 4 0
+    ∷ refuses (sizes (head 8 2 4 64)) 0 0
+    ∷ refuses (sizes (head 8 2 5 1)) 4 0
+    ∷ refuses (sizes (head 9 3 5 64)) 0 0
+    ∷ refuses (sizes (head 16 3 8 1)) 0 0
+    ∷ refuses (sizes (head 25 2 12 52)) 0 0
+    ∷ refuses (sizes (head 27 3 14 48)) 0 0
+    ∷ refuses (sizes (head 32 2 16 40)) 0 0
+    ∷ refuses (sizes (head 49 3 25 26)) 0 0
+    ∷ refuses (sizes (head 9 4 1 1)) 4 0
+    ∷ refuses (sizes (head 9 5 1 1)) 4 0
     ∷ refuses (sizes (head 5 0 0 1)) 4 0
     ∷ refuses (sizes (head 3 1 2 1)) 0 0
     ∷ refuses (sizes (head 3 0 2 1)) 4 0
@@ -158,6 +170,9 @@ designRows =
     ∷ refuses (designVerdict three (3 ∷ 3 ∷ [])) 5 0
     ∷ refuses (designVerdict three (2 ∷ 2 ∷ [])) 5 1
     ∷ refuses (designVerdict three (2 ∷ 255 ∷ [])) 5 1
+    ∷ refuses (designVerdict (head 9 2 1 1) (0 ∷ 255 ∷ [])) 5 1
+    ∷ refuses (designVerdict (head 9 3 1 1) (0 ∷ 255 ∷ [])) 0 0
+    ∷ refuses (designVerdict (head 9 3 1 1) (9 ∷ 0 ∷ [])) 5 0
     ∷ refuses (designVerdict withInfinity pairs) 0 0
     ∷ refuses (designVerdict withInfinity (255 ∷ 255 ∷ 0 ∷ 1 ∷ [])) 5 1
     ∷ refuses (designVerdict withInfinity (0 ∷ 1 ∷ 255 ∷ 3 ∷ [])) 5 3
@@ -175,6 +190,16 @@ designRows =
     ∷ refuses (judgeVerdict three (0 ∷ 0 ∷ [])) 5 1
     ∷ refuses (judgeVerdict four pair) 6 0
     ∷ refuses (judgeVerdict withInfinity (0 ∷ 1 ∷ 0 ∷ 2 ∷ [])) 6 0
+    ∷ []
+
+-- ---- elements with a shift added, by the field of each size, and by residues
+abbrev sumRows : List Row
+sumRows =
+    holding
+    (plus (head 8 2 1 1) 3 5 ∷ plus (head 9 2 1 1) 5 7 ∷ plus (head 9 3 1 1) 4 4 ∷ plus (head 9 2 1 1) 3 6 ∷ plus (head 16 2 1 1) 9 3
+    ∷ plus (head 25 3 1 1) 7 18 ∷ plus (head 27 2 1 1) 13 14 ∷ plus (head 32 3 1 1) 21 11 ∷ plus (head 49 2 1 1) 45 10 ∷ plus (head 49 3 1 1) 48 8 ∷ [])
+    (6 ∷ 0 ∷ 8 ∷ 0 ∷ 10 ∷ 20 ∷ 24 ∷ 30 ∷ 6 ∷ 0 ∷ [])
+    ∷ holding (plus (head 9 0 1 1) 5 7 ∷ plus (head 9 1 1 1) 4 4 ∷ plus (head 27 1 1 1) 13 14 ∷ plus (head 49 0 1 1) 45 10 ∷ []) (3 ∷ 8 ∷ 0 ∷ 6 ∷ [])
     ∷ []
 
 -- ---- the calls on readings, two faults at a time
@@ -551,10 +576,10 @@ writingRows =
     ∷ []
 
 unfoldable pub table : List Row
-table = sizeRows ++ designRows ++ callRows ++ publishingRows ++ heldRows ++ numberRows ++ fileRows ++ writingRows ++ listingRows
+table = sizeRows ++ designRows ++ sumRows ++ callRows ++ publishingRows ++ heldRows ++ numberRows ++ fileRows ++ writingRows ++ listingRows
 
 pub boundaries : every table ≡ true
-unfolding table listingRows sized occ plus left right company opposition balanced beta total members restrained numeratorOf denominatorOf along difference deviationOf squaredReadings squaredTotals qOf root spreadHundredths spreadHundredthsOf rank shortfall published offender farReading word wordAt tableOf designVerdict developVerdict initialVerdict judgeVerdict slices contents jobVerdict totalVerdict valuesVerdict valueVerdict readingsVerdict deviationsVerdict deviationVerdict squaredReadingsVerdict squaredTotalsVerdict rooms analyseVerdict big numbersAt fieldVerdict fieldAt fields readVerdict solveVerdict bytesOf readingsBody fileOf writeVerdict ascii digits each textOf benchText over sum sumℕ firstFrom round
+unfolding table listingRows fieldPrime sized occ digitSum plus left right company opposition balanced beta total members restrained numeratorOf denominatorOf along difference deviationOf squaredReadings squaredTotals qOf root spreadHundredths spreadHundredthsOf rank shortfall published offender farReading word wordAt tableOf designVerdict developVerdict initialVerdict judgeVerdict slices contents jobVerdict totalVerdict valuesVerdict valueVerdict readingsVerdict deviationsVerdict deviationVerdict squaredReadingsVerdict squaredTotalsVerdict rooms analyseVerdict big numbersAt fieldVerdict fieldAt fields readVerdict solveVerdict bytesOf readingsBody fileOf writeVerdict ascii digits each textOf benchText over sum sumℕ firstFrom round
 boundaries = refl
 
 -- ---- how near an f64 is, and any set of values
@@ -574,16 +599,16 @@ valuesOfA = exactValues (headOf fileA) (blocksOf fileA) (readingsOf fileA) 3 (po
 
 -- example A: the sum of squared deviations of its exact values is Q over v·beta, 25/5
 pub squares-of-A : squaresUnder (headOf fileA) (blocksOf fileA) (readingsOf fileA) valuesOfA =ᶠ record { top = pos 25; bottom = 5 }
-unfolding sum sumℕ occ plus left right company opposition beta total members restrained numeratorOf denominatorOf big numbersAt summed valuesAlong deviationUnder squaresUnder
+unfolding sum sumℕ occ fieldPrime digitSum plus left right company opposition beta total members restrained numeratorOf denominatorOf big numbersAt summed valuesAlong deviationUnder squaresUnder
 squares-of-A = refl
 
 -- example A: its exact values keep the restraint, and its published values are the listed hundredths of a count
 pub restraint-of-A : KeepsRestraint 5 3 (pos 7) valuesOfA
-unfolding sum sumℕ occ plus left right company opposition beta total members restrained numeratorOf denominatorOf big numbersAt summed
+unfolding sum sumℕ occ fieldPrime digitSum plus left right company opposition beta total members restrained numeratorOf denominatorOf big numbersAt summed
 restraint-of-A = refl
 
 pub published-of-A : publishedValues (headOf fileA) (blocksOf fileA) (readingsOf fileA) 3 (pos 7) 1 =ᶠ record { top = pos 73; bottom = 10 }
-unfolding sum sumℕ occ plus left right company opposition beta total members restrained numeratorOf denominatorOf big numbersAt rank shortfall published
+unfolding sum sumℕ occ fieldPrime digitSum plus left right company opposition beta total members restrained numeratorOf denominatorOf big numbersAt rank shortfall published
 published-of-A = refl
 
 -- over no objects the values add to 0

@@ -1,11 +1,11 @@
--- The starred examples A to I of the request, rows of one table, and the one theorem that every row holds. Assumes nothing.
+-- The starred examples A to I of the request and our own over nine elements, rows of one table, and the one theorem that every row holds. Assumes nothing.
 use mathlib.Core.Bool.{true}
 use mathlib.Core.List.{List, [], _∷_}
 use mathlib.Core.Path.{_≡_, refl}
 use Prim.Native.Nat.{ℕ}
 use lib.IntN.{pos, negsuc}
 use Rattle.algebra.specs.Ranges.{sum, sumℕ, firstFrom}
-use Rattle.meaning.specs.Design.{sized, occ, plus, left, right, company, opposition, balanced, beta}
+use Rattle.meaning.specs.Design.{fieldPrime, sized, occ, digitSum, plus, left, right, company, opposition, balanced, beta}
 use Rattle.meaning.specs.Analysis.{
   total,
   members,
@@ -49,6 +49,18 @@ fileE =
 abbrev blocksG : List ℕ
 blocksG = 255 ∷ 1 ∷ 4 ∷ 5 ∷ 9 ∷ 3 ∷ 0 ∷ 8 ∷ 1 ∷ 2 ∷ 7 ∷ 6 ∷ []
 
+-- nine elements, four a side (000, example 2.3.2): the even powers of x against the odd ones, x² + x + 2 = 0, x being 3
+abbrev nineField : List ℕ
+nineField = 1 ∷ 7 ∷ 2 ∷ 5 ∷ 3 ∷ 8 ∷ 6 ∷ 4 ∷ []
+
+-- nine elements and ∞, five a side (000, example 2.6.2)
+abbrev nineFieldFixed : List ℕ
+nineFieldFixed = 255 ∷ 1 ∷ 7 ∷ 2 ∷ 5 ∷ 0 ∷ 3 ∷ 8 ∷ 6 ∷ 4 ∷ 0 ∷ 1 ∷ 7 ∷ 2 ∷ 5 ∷ 255 ∷ 3 ∷ 8 ∷ 6 ∷ 4 ∷ []
+
+-- nine residues, one a side: each difference once
+abbrev nineResidues : List ℕ
+nineResidues = 0 ∷ 1 ∷ 0 ∷ 2 ∷ 0 ∷ 3 ∷ 0 ∷ 4 ∷ []
+
 unfoldable pub table : List Row
 unfolding ascii
 table =
@@ -80,8 +92,16 @@ table =
     ∷ publishes (pos 1) 8 (pos 12)
     ∷ publishes (pos 3) 8 (pos 38)
     ∷ publishes (negsuc 0) 8 (negsuc 11)
+    -- ours: balanced over the nine-element field, without ∞ and with it, and not modulo 9
+    ∷ balances (head 9 2 4 1) nineField (record { v = 9; b = 9; r = 8; p = 4; l1 = 3; l2 = 4 }) 1
+    ∷ refuses (judgeVerdict (head 9 0 4 1) nineField) 6 0
+    ∷ balances (head 9 3 5 2) nineFieldFixed (record { v = 10; b = 18; r = 18; p = 5; l1 = 8; l2 = 10 }) 9
+    ∷ refuses (judgeVerdict (head 9 1 5 2) nineFieldFixed) 6 0
+    -- ours: balanced modulo 9, and not over the field, where 1 and 2 are opposite and arise as one difference
+    ∷ balances (head 9 0 1 4) nineResidues (record { v = 9; b = 36; r = 8; p = 1; l1 = 0; l2 = 1 }) 28
+    ∷ refuses (judgeVerdict (head 9 2 1 4) nineResidues) 6 0
     ∷ []
 
 pub examples : every table ≡ true
-unfolding table sized occ plus left right company opposition balanced beta total members restrained numeratorOf denominatorOf along difference deviationOf squaredReadings squaredTotals qOf root spreadHundredths spreadHundredthsOf rank shortfall published offender farReading designVerdict judgeVerdict slices contents big numbersAt fieldVerdict fields readVerdict ascii digits each textOf sum sumℕ firstFrom
+unfolding table fieldPrime sized occ digitSum plus left right company opposition balanced beta total members restrained numeratorOf denominatorOf along difference deviationOf squaredReadings squaredTotals qOf root spreadHundredths spreadHundredthsOf rank shortfall published offender farReading designVerdict judgeVerdict slices contents big numbersAt fieldVerdict fields readVerdict ascii digits each textOf sum sumℕ firstFrom
 examples = refl

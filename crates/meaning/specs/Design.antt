@@ -1,21 +1,35 @@
 -- What a design is, and when it is balanced (000, section 2). Assumes nothing.
-use Prim.Native.Nat.{ℕ, _+_, _-_, _*_, _/_, _%_, _<_}
-use mathlib.Core.Bool.{Bool, cond, _&&_}
+use Prim.Native.Nat.{ℕ, zero, suc, _+_, _-_, _*_, _/_, _%_, _<_}
+use mathlib.Core.Bool.{Bool, true, cond, _&&_, _||_}
 use mathlib.Core.List.{List, [], _∷_, map}
 use mathlib.Core.Path.{_≡_}
 use lib.ListN.{take, drop}
-use lib.Dec.{eqb, leb}
+use lib.Dec.{eqb, ltb, leb}
 use Rattle.algebra.specs.Ranges.{sumℕ, all}
 use Rattle.records.specs.declared.Head.{Head}
 use Rattle.records.specs.declared.Parameters.{Parameters}
 
--- v, the number of objects: the n residues, and ∞ where the flag is 1
+-- The flag: 0 and 1 ask for residues, 2 and 3 for a field; ∞ takes part with 1 and 3.
+
+-- v, the number of objects: the n elements, and ∞ where it takes part
 abbrev pub objects : Head → ℕ
-objects h = h .n + h .flag
+objects h = h .n + h .flag % 2
 
 -- whether the fixed object ∞ takes part
 abbrev pub withFixed : Head → Bool
-withFixed h = eqb (h .flag) 1
+withFixed h = eqb (h .flag % 2) 1
+
+-- whether blocks are developed by the addition of a field, not by that of residues
+abbrev pub byField : Head → Bool
+byField h = leb 2 (h .flag)
+
+-- q, the prime of which n is a power, for the fields of the request; 0 for any other n
+unfoldable pub fieldPrime : ℕ → ℕ
+fieldPrime n = cond (eqb n 8 || eqb n 16 || eqb n 32) 2 (cond (eqb n 9 || eqb n 27) 3 (cond (eqb n 25) 5 (cond (eqb n 49) 7 0)))
+
+-- whether there is an addition to develop by: residues for every n, a field for those of the request
+abbrev pub hasAddition : Head → Bool
+hasAddition h = cond (byField h) (ltb 0 (fieldPrime (h .n))) true
 
 -- b, the number of blocks
 abbrev pub blocks : Head → ℕ
@@ -23,7 +37,7 @@ blocks h = h .m * h .n
 
 -- the sizes of the request
 unfoldable pub sized : Head → Bool
-sized h = leb 3 (h .n) && leb (h .n) 50 && leb (h .flag) 1 && leb (objects h) 50 && leb 1 (h .p) && leb (2 * h .p) (objects h)
+sized h = leb 3 (h .n) && leb (h .n) 50 && leb (h .flag) 3 && hasAddition h && leb (objects h) 50 && leb 1 (h .p) && leb (2 * h .p) (objects h)
     && leb 1 (h .m) && leb (h .m) 64 && leb (blocks h) 1300
 
 -- how many bytes the list of the initial blocks has
@@ -35,9 +49,14 @@ unfoldable pub occ : ℕ → List ℕ → ℕ
 occ x [] = 0
 occ x (y ∷ ys) = cond (eqb x y) 1 0 + occ x ys
 
--- the residue x with the shift s added
+-- x and s as k digits in base q, lowest first, added digit by digit modulo q, with nothing carried
+unfoldable pub digitSum : ℕ → ℕ → ℕ → ℕ → ℕ
+digitSum q zero x s = 0
+digitSum q (suc k) x s = digitSum q k (x / q) (s / q) * q + (x % q + s % q) % q
+
+-- the element x with the shift s added: digits (no element has more than five), or residues
 unfoldable pub plus : Head → ℕ → ℕ → ℕ
-plus h x s = (x + s) % h .n
+plus h x s = cond (byField h) (digitSum (fieldPrime (h .n)) 5 x s) ((x + s) % h .n)
 
 -- the object that the byte x names at shift s: 255 is ∞, which stays and is object n
 abbrev pub moved : Head → ℕ → ℕ → ℕ

@@ -1,6 +1,6 @@
 // The types that the crates of the bench share. What each call answers with them is said in crates/meaning/specs.
 
-// The sizes of a design: residues, whether the fixed object takes part, objects a side, initial blocks.
+// The sizes of a design: elements, the flag (which addition develops, and whether the fixed object takes part), objects a side, initial blocks.
 pub struct Head {
     pub n: usize,
     pub flag: usize,

@@ -99,7 +99,17 @@ pub fn refusal_in(returned: u64) -> Result<(), Refusal> {
     }
 }
 
-/// The sizes of a design: residues, flag (1 where the fixed object takes part), objects a side, initial blocks.
+/// The sizes of a design: elements, flag, objects a side, initial blocks. With the flags 1 and 3 the fixed object takes part; with 2 and 3 blocks are
+/// developed by the addition of the field of n elements, n one of 8, 9, 16, 25, 27, 32, 49: an element is its base-q digits packed into a number, the
+/// lowest first, and each two digits are added modulo q.
+/// ```
+/// # use mass_bench::*;
+/// let nine = Head { n: 9, flag: 2, p: 4, m: 1 };
+/// let design = judge(nine, &[1, 7, 2, 5, 3, 8, 6, 4])?;
+/// assert_eq!((design.l1, design.l2), (3, 4));
+/// assert_eq!(judge(Head { flag: 0, ..nine }, &[1, 7, 2, 5, 3, 8, 6, 4]).unwrap_err().reason, Reason::Unbalanced);
+/// # Ok::<(), Refusal>(())
+/// ```
 #[derive(Debug, Clone, Copy, PartialEq, Eq)]
 pub struct Head {
     pub n: usize,
@@ -111,7 +121,7 @@ pub struct Head {
 impl Head {
     // The objects and the blocks of an accepted head.
     fn objects(self) -> usize {
-        self.n + self.flag
+        self.n + self.flag % 2
     }
 
     fn blocks(self) -> usize {

@@ -5,29 +5,27 @@
 -- Assumes nothing.
 use Prim.Native.Nat.{ℕ, _+_, _-_, _*_, _/_, _%_, _^_, _≤_, _<_}
 use mathlib.Core.Path.{_≡_, sym, ap, _∙_}
-use mathlib.Core.Bool.{Bool, true, false, cond}
+use mathlib.Core.Bool.{true}
 use mathlib.Core.List.{List, [], _∷_, map}
 use native.Mathlib.Numerals.{add-one}
 use native.Mathlib.Omega.{arith}
-use native.Mathlib.Nat.{le-trans, le-of-lt, mod-lt, one-mul, mul-assoc, mul-comm, mul-suc, mul-le-mul-left}
+use native.Mathlib.Nat.{one-mul, mul-assoc, mul-comm, mul-suc, mul-le-mul-left}
 use lib.Arith.{digits-div, digits-mod}
-use lib.Dec.{eqb, lit<}
+use lib.Dec.{lit<}
 use lib.Pow.{pow-mono, shl-exact}
 use lib.ListN.{length, getD, take, drop}
 use lib.Seq.{drop-cons, drop-length}
 use Rattle.records.specs.declared.Head.{Head}
-use Rattle.meaning.specs.Design.{plus, moved, left, right}
+use Rattle.meaning.specs.Design.{moved, left, right}
+use Rattle.meaning.specs.Refusals.{inRange}
 use Rattle.meaning.specs.Calls.{word, wordAt}
 use Rattle.laws.specs.Fits.{Fits}
+use Rattle.laws.proofs.Occurrences.{Each, each-head, each-tail}
+use Rattle.laws.proofs.Clean.{moved-range}
 
 -- an object is at most 50
-pub moved-most : (h : Head) (s x : ℕ) → Fits h → moved h s x ≤ 50
-unfolding plus
-moved-most h s x f = go (eqb x 255)
-  where
-    go : (b : Bool) → cond b (h .n) ((x + s) % h .n) ≤ 50
-    go true = f .n-most
-    go false = le-trans (le-of-lt (mod-lt (x + s) (omega arith))) (f .n-most)
+pub moved-most : (h : Head) (s x : ℕ) → Fits h → s < h .n → inRange h x ≡ true → moved h s x ≤ 50
+moved-most h s x f l t = omega (arith, moved-range h s (f .has-addition) l x t, f .objects-most)
 
 -- the first byte's bit and the word of the rest
 pub word-more : (g : ℕ → ℕ) (xs : List ℕ) (k : ℕ) → k < length xs → word (map g (drop k xs)) ≡ 2 ^ g (getD xs k 0) + word (map g (drop (k + 1) xs))
@@ -40,14 +38,15 @@ unfolding word
 word-none g xs k e = rw (e, drop-length)
 
 -- each object adds at most 2 ^ 50
-word-le : (g : ℕ → ℕ) → ((x : ℕ) → g x ≤ 50) → (xs : List ℕ) → word (map g xs) ≤ length xs * 2 ^ 50
+word-le : (g : ℕ → ℕ) (xs : List ℕ) → Each (λ x. g x ≤ 50) xs → word (map g xs) ≤ length xs * 2 ^ 50
 unfolding word
-word-le g h [] = omega arith
-word-le g h (x ∷ xs) = omega (arith, word-le g h xs, pow-mono {j = 50} (h x))
+word-le g [] h = omega arith
+word-le g (x ∷ xs) h = omega (arith, word-le g xs (each-tail (λ x. g x ≤ 50) x xs h), pow-mono {j = 50} (each-head (λ x. g x ≤ 50) x xs h))
 
 -- a side of at most 25 objects is below 2 ^ 55: none of its sums wraps
-pub word-most : (h : Head) (s : ℕ) (xs : List ℕ) → Fits h → length xs ≤ 25 → word (map (moved h s) xs) < 2 ^ 55
-word-most h s xs f l = omega (arith, word-le (moved h s) (λ x. moved-most h s x f) xs)
+pub word-most : (h : Head) (s : ℕ) (xs : List ℕ) → Fits h → s < h .n → length xs ≤ 25 → Each (λ x. inRange h x ≡ true) xs
+    → word (map (moved h s) xs) < 2 ^ 55
+word-most h s xs f l m t = omega (arith, word-le (moved h s) xs (λ i o. moved-most h s (getD xs i 0) f l (t i o)))
 
 -- 1 << r
 pub bit-of : (r : ℕ) → r ≤ 50 → (1 * 2 ^ r) % 2 ^ 64 ≡ 2 ^ r

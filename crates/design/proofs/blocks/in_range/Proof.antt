@@ -12,4 +12,4 @@ returns-2 : tie.Need-returns-2
 returns-2 c = rw (eq-eqb (c .before .before .args .byte) 255 (omega arith)) (search needs)
 
 pub in-range-spec : {M : Type 1} → statement M
-in-range-spec = tie.close (tie.spec returns returns-2)
+in-range-spec = tie.close (tie.spec (λ c κs. search needs) returns returns-2)

@@ -31,7 +31,7 @@ mul-if2-2 : tie.Need-mul-if2-2
 mul-if2-2 c = let f = sound _ _ (passed c) .sizes in omega arith
 
 write-words-requires : tie.Need-write-words-requires
-write-words-requires c κs = let s = sound _ _ (passed (c .before .before)) in (s .sizes, s .long, search needs)
+write-words-requires c κs = (passed (c .before .before), search needs)
 
 returns-2 : tie.Need-returns-2
 unfolding developVerdict

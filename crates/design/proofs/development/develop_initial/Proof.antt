@@ -84,8 +84,7 @@ part-write-shifts-start c = omega (arith, inside c)
 
 write-shifts-requires : tie.Need-write-shifts-requires
 write-shifts-requires c κs =
-    let s = sound _ _ (passed (c .before .before .before)) in
-    (s .sizes, search needs, s .long, simp (length-take, length-drop) (omega (arith, inside (c .before))))
+    (passed (c .before .before .before), search needs, simp (length-take, length-drop) (omega (arith, inside (c .before))))
 
 returns-4 : tie.Need-returns-4
 unfolding initialVerdict

@@ -31,9 +31,10 @@ whole : (c : tie.After-object-of Inv-loop μ-loop)
 whole c =
     let l = c .before .before .before .loop in
     let a = c .before .before .before .before .before .args in
+    let pre = c .before .before .before .before .before .pre in
     let more : l .k < length (now (a .side)) = omega arith in
     let small : c .object-of .result ≤ 50 =
-    rw (c .object-of .ensures) (moved-most (a .head) (a .shift) (getD (now (a .side)) (l .k) 0) (c .before .before .before .before .before .pre .0)) in (
+    rw (c .object-of .ensures) (moved-most (a .head) (a .shift) (getD (now (a .side)) (l .k) 0) (pre .0) (pre .1) (pre .3 (l .k) more)) in (
       small,
       omega (
         arith,
@@ -47,12 +48,18 @@ whole c =
 loop-holds : tie.Need-loop-holds Inv-loop μ-loop
 loop-holds c = (search needs, search needs, omega arith)
 
+object-of-requires : tie.Need-object-of-requires Inv-loop μ-loop
+object-of-requires c κs =
+    let s = c .before .before .before .before in
+    let more : c .before .before .loop .k < length (now (s .args .side)) = omega arith in
+    (s .pre .0, s .pre .1, s .pre .3 (c .before .before .loop .k) more)
+
 shl-sum : tie.Need-shl-sum Inv-loop μ-loop
 shl-sum c = omega (arith, whole c .0)
 
 add-sum : tie.Need-add-sum Inv-loop μ-loop
 add-sum c = let s = c .before .before .before .before .before in
-    omega (arith, whole c .1, word-most (s .args .head) (s .args .shift) (now (s .args .side)) (s .pre .0) (s .pre .2))
+    omega (arith, whole c .1, word-most (s .args .head) (s .args .shift) (now (s .args .side)) (s .pre .0) (s .pre .1) (s .pre .2) (s .pre .3))
 
 loop-again : tie.Need-loop-again Inv-loop μ-loop
 loop-again c = (search needs, search needs, whole c .1)
@@ -72,7 +79,7 @@ side-word-spec =
     μ-loop
     loop-holds
     (λ c. search needs)
-    (λ c κs. search needs)
+    object-of-requires
     shl-sum
     add-sum
     (λ c. search needs)

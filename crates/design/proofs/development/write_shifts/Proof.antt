@@ -6,7 +6,8 @@ use lib.ListN.{length, length-set, length-take}
 use Rattle.meaning.specs.Calls.{wordAt}
 use Rattle.algebra.specs.Buffers.{over}
 use Rattle.algebra.proofs.Filling.{over-none, over-step, over-end}
-use Rattle.laws.proofs.Chains.{listed-most}
+use Rattle.laws.proofs.Chains.{listed-most, sound}
+use Rattle.laws.proofs.Clean.{part-range}
 use Rattle.design.proofs.development.Parts.{part-in, left-lent, right-lent}
 use native.Mathlib.Omega.{arith}
 use borrow.Author.Needs.{needs}
@@ -23,7 +24,10 @@ abbrev μ-loop : tie.MeasureT-loop
 -- block j lies within the bytes
 inside : (c : tie.Start Inv-loop μ-loop) →
     (2 * c .args .head .p * c .args .j + 2 * c .args .head .p ≤ 2 * c .args .head .p * c .args .head .m) × (2 * c .args .head .p * c .args .head .m ≤ 3200)
-inside c = (part-in _ _ _ (c .pre .1), listed-most _ (c .pre .0))
+inside c = (part-in _ _ _ (c .pre .1), listed-most _ (sound _ _ (c .pre .0) .sizes))
+
+mul-left : tie.Need-mul-left Inv-loop μ-loop
+mul-left c = let f = sound _ _ (c .before .before .pre .0) .sizes in omega arith
 
 mul-left-2 : tie.Need-mul-left-2 Inv-loop μ-loop
 mul-left-2 c = omega (arith, inside (c .before .before) .0, inside (c .before .before) .1)
@@ -38,16 +42,28 @@ loop-holds : tie.Need-loop-holds Inv-loop μ-loop
 loop-holds c = (search needs, search needs, over-none _ _)
 
 part-side-word-end : tie.Need-part-side-word-end Inv-loop μ-loop
-part-side-word-end c = omega (arith, inside (c .before .before .before .before) .0)
+part-side-word-end c = omega (arith, inside (c .before .before .before .before) .0, sound _ _ (c .before .before .before .before .pre .0) .long)
 
 side-word-requires : tie.Need-side-word-requires Inv-loop μ-loop
-side-word-requires c κs = (search needs, search needs, simp length-take (omega arith))
+side-word-requires c κs =
+    let s = c .before .before .before .before .before in
+    let d = sound _ _ (s .pre .0) in
+    let first = 2 * s .args .head .p * s .args .j in
+    let in-list : first + (first + s .args .head .p - first) ≤ length (now (s .args .blocks)) = omega (arith, inside s .0, d .long) in
+    let range = part-range (s .args .head) (now (s .args .blocks)) d first (first + s .args .head .p - first) in-list in
+    (d .sizes, search needs, simp length-take (omega (arith, d .sizes)), range)
 
 part-side-word-end-2 : tie.Need-part-side-word-end-2 Inv-loop μ-loop
-part-side-word-end-2 c = omega (arith, inside (c .before .before .before .before .before .before) .0)
+part-side-word-end-2 c = let s = c .before .before .before .before .before .before in omega (arith, inside s .0, sound _ _ (s .pre .0) .long)
 
 side-word-requires-2 : tie.Need-side-word-requires-2 Inv-loop μ-loop
-side-word-requires-2 c κs = (search needs, search needs, simp length-take (omega arith))
+side-word-requires-2 c κs =
+    let s = c .before .before .before .before .before .before .before in
+    let d = sound _ _ (s .pre .0) in
+    let first = 2 * s .args .head .p * s .args .j + s .args .head .p in
+    let in-list : first + (first + s .args .head .p - first) ≤ length (now (s .args .blocks)) = omega (arith, inside s .0, d .long) in
+    let range = part-range (s .args .head) (now (s .args .blocks)) d first (first + s .args .head .p - first) in-list in
+    (d .sizes, search needs, simp length-take (omega (arith, d .sizes)), range)
 
 slice-write-part-2 : tie.Need-slice-write-part-2 Inv-loop μ-loop
 slice-write-part-2 c = simp length-set (omega arith)
@@ -76,7 +92,7 @@ write-shifts-spec =
     (tie.spec
     Inv-loop
     μ-loop
-    (λ c. search needs)
+    mul-left
     mul-left-2
     add-right
     add-end

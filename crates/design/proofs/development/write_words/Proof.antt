@@ -8,6 +8,7 @@ use native.Mathlib.Nat.{mul-zero}
 use Rattle.meaning.specs.Calls.{wordAt}
 use Rattle.algebra.specs.Buffers.{over}
 use Rattle.algebra.proofs.Filling.{over-none, over-end, over-lent}
+use Rattle.laws.proofs.Chains.{sound}
 use Rattle.design.proofs.development.Parts.{part-in, part-next, twice}
 use native.Mathlib.Omega.{arith}
 use borrow.Author.Needs.{needs}
@@ -33,6 +34,9 @@ inside c = (part-in _ _ _ (c .loop-test .taken), twice _ _)
 loop-holds : tie.Need-loop-holds Inv-loop μ-loop
 loop-holds c = (search needs, search needs, rw mul-zero (over-none _ _))
 
+mul-start : tie.Need-mul-start Inv-loop μ-loop
+mul-start c = let f = sound _ _ (start c .pre .0) .sizes in omega arith
+
 mul-start-2 : tie.Need-mul-start-2 Inv-loop μ-loop
 mul-start-2 c = omega (arith, inside c .0, inside c .1)
 
@@ -47,7 +51,6 @@ part-write-shifts-start c = omega (arith, inside c .0, inside c .1)
 
 write-shifts-requires : tie.Need-write-shifts-requires Inv-loop μ-loop
 write-shifts-requires c κs = (
-  search needs,
   search needs,
   search needs,
   simp (length-take, length-drop) (omega (arith, inside (c .before) .0, inside (c .before) .1)),
@@ -74,7 +77,7 @@ write-words-spec =
     Inv-loop
     μ-loop
     loop-holds
-    (λ c. search needs)
+    mul-start
     mul-start-2
     mul-write-shifts
     sub-write-shifts

@@ -15,11 +15,11 @@ passed c = sym (c .before .sized .ensures) ∙ not-false _ (c .if1 .left)
 returns : tie.Need-returns
 returns c = rw (sym (c .before .sized .ensures) ∙ not-true _ (c .if1 .taken)) (search needs)
 
-with-fixed-requires : tie.Need-with-fixed-requires
-with-fixed-requires c κs = let f = fits _ (passed c) in (f .n-most, f .flag-most)
+counted-requires : tie.Need-counted-requires
+counted-requires c κs = fits _ (passed c) .n-most
 
 returns-2 : tie.Need-returns-2
-returns-2 c = rw (passed (c .before)) (c .with-fixed .ensures)
+returns-2 c = rw (passed (c .before)) (c .counted .ensures)
 
 pub objects-spec : {M : Type 1} → statement M
-objects-spec = tie.close (tie.spec (λ c κs. search needs) returns with-fixed-requires returns-2)
+objects-spec = tie.close (tie.spec (λ c κs. search needs) returns counted-requires returns-2)

@@ -18,6 +18,7 @@ mod balanced;
 mod compare;
 mod damage;
 mod design;
+mod field;
 mod job;
 mod listing;
 mod papers;

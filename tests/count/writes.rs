@@ -14,6 +14,7 @@
 mod balanced;
 mod damage;
 mod design;
+mod field;
 mod job;
 mod listing;
 mod papers;

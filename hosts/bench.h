@@ -26,12 +26,13 @@
  *   6 | the developed design is unbalanced                                | 0                | 0
  *   7 | the restraint set is empty or has a bit at v or above, or its     | field start      | 0
  *     | accepted sum is out of range                                      |                  |
+ *  11 | the restraint set has one object: one standard is too few         | field start      | 0
  *   8 | a reading is out of range                                         | its first byte   | its index in `readings`
  *   9 | bytes follow the fourth field                                     | first such byte  | -
  *  10 | a room is too short, or slots of any kind are too few             | 0                | 0
- * A call that takes no file looks, of what it takes, for 4, then 3, 5, 6, 7, 8. A file is looked at field by field: 1 for the start,
- * 2, 3, 1 for the body; 4 right after the first field; after the fourth 9; then 5, 6, 7, 8. 10 comes last in every call. Development,
- * tables, totals and sums of squares need no balance: no 6. Deviations, Q and spread take no restraint: no 7.
+ * A call that takes no file looks, of what it takes, for 4, then 3, 5, 6, 7, 11, 8. A file is looked at field by field: 1 for the
+ * start, 2, 3, 1 for the body; 4 right after the first field; after the fourth 9; then 5, 6, 7, 11, 8. 10 comes last in every call.
+ * Development, tables, totals and sums of squares need no balance: no 6. Deviations, Q and spread take no restraint: no 7, no 11.
  *
  * Sizes: n from 3 to 50; flag 0 to 3; v at most 50; p at least 1, 2p at most v; m from 1 to 64; b = m*n at most 1,300; readings within
  * +-200,000; the accepted sum within +-1,000,000,000.
@@ -166,7 +167,7 @@ uint64_t bench_judge(size_t n, size_t flag, size_t p, size_t m, const uint8_t *b
                      uint64_t *answer, size_t answer_length);
 
 /* ---- jobs: a design with its readings, b of them, all shifts of the first initial block, then of the second; and a restraint set,
- * of which bit i is object i, with its accepted sum. */
+ * of which bit i is object i, two objects at least, with its accepted sum. */
 
 /* The total of one object: the readings with it on the left less those with it on the right. */
 uint64_t bench_total(size_t n, size_t flag, size_t p, size_t m, const uint8_t *blocks, size_t blocks_length,
@@ -181,7 +182,7 @@ uint64_t bench_sum_of_squared_totals(size_t n, size_t flag, size_t p, size_t m, 
                                      const int32_t *readings, size_t readings_length,
                                      uint64_t *answer, size_t answer_length);
 
-/* Why a whole job is refused: 4, 3, 5, 6, 7, 8. */
+/* Why a whole job is refused: 4, 3, 5, 6, 7, 11, 8. */
 uint64_t bench_refusal(size_t n, size_t flag, size_t p, size_t m, const uint8_t *blocks, size_t blocks_length,
                        const int32_t *readings, size_t readings_length, uint64_t set, int64_t sum);
 

@@ -2,7 +2,7 @@
 
 use crate::compare::HEADS;
 use crate::design::{balance, develop, Balance, Block};
-use crate::job::{self, first_far, first_unclean, is_restraint, members, Cursor, Draft, Head, Job, Refusal, READING_LIMIT, SUM_LIMIT};
+use crate::job::{self, first_far, first_unclean, is_one_standard, is_restraint, members, Cursor, Draft, Head, Job, Refusal, READING_LIMIT, SUM_LIMIT};
 use crate::seed::Seed;
 use crate::solve::{solve, Results};
 use std::cell::OnceCell;
@@ -70,11 +70,15 @@ impl Asked {
         is_restraint(&self.head, &members(self.set), self.sum.into())
     }
 
+    fn has_standards(&self) -> bool {
+        !is_one_standard(&members(self.set))
+    }
+
     /// The figures of a balanced design with its readings. Calls that take no restraint answer with figures that are the same under any: where there is
-    /// none, the first two objects make one.
+    /// none, or one object alone, the first two objects make one.
     pub fn solved(&self) -> &Solved {
         self.worked_out.solved.get_or_init(|| {
-            let (set, sum) = if self.has_restraint() { (self.set, self.sum) } else { (3, 0) };
+            let (set, sum) = if self.has_restraint() && self.has_standards() { (self.set, self.sum) } else { (3, 0) };
             Solved::of(Job {
                 head: self.head,
                 blocks: self.blocks().to_vec(),
@@ -109,6 +113,7 @@ pub enum Test {
     Block,
     Balance,
     Restraint,
+    Standards,
     Readings,
     Field,
     File,
@@ -118,7 +123,7 @@ pub enum Test {
 type Look = fn(&Asked) -> Option<Refusal>;
 
 /// All tests in the order of the request, with the numbers that each refuses by; a call makes those of what it takes. 10, for short rooms, comes after all.
-pub const ORDER: [(Test, &[u8], Look); 12] = [
+pub const ORDER: [(Test, &[u8], Look); 13] = [
     (Test::Sizes, &[4], |asked| unless(asked.head.in_size(), 4, 0)),
     (Test::BlocksLength, &[3], |asked| unless(asked.objects.len() == 2 * asked.head.p * asked.head.m, 3, 0)),
     (Test::ReadingsLength, &[3], |asked| unless(asked.readings.len() == asked.head.blocks(), 3, 0)),
@@ -128,9 +133,10 @@ pub const ORDER: [(Test, &[u8], Look); 12] = [
     (Test::Block, &[5], |asked| unless(asked.number < asked.head.blocks(), 5, asked.number)),
     (Test::Balance, &[6], |asked| unless(asked.balance().is_some(), 6, 0)),
     (Test::Restraint, &[7], |asked| unless(asked.has_restraint(), 7, 0)),
+    (Test::Standards, &[11], |asked| unless(asked.has_standards(), 11, 0)),
     (Test::Readings, &[8], |asked| at(8, first_far(&asked.wide_readings()))),
     (Test::Field, &[1, 2, 3], |asked| Cursor::at(&asked.bytes, asked.place).field(asked.tag, asked.length).err()),
-    (Test::File, &[1, 2, 3, 4, 5, 6, 7, 8, 9], |asked| asked.file().err()),
+    (Test::File, &[1, 2, 3, 4, 5, 6, 7, 8, 9, 11], |asked| asked.file().err()),
 ];
 
 fn unless(good: bool, number: u8, place: usize) -> Option<Refusal> {
@@ -162,11 +168,23 @@ pub fn at_bounds(whole: impl Fn() -> Asked) -> Vec<Asked> {
         all.push(asked);
     };
     heads.iter().for_each(|[n, flag, p, m]| add(&|asked| asked.head = Head { n: *n, flag: *flag, p: *p, m: *m }));
-    [0, 1 << (n + flag % 2 - 1), 1 << (n + flag % 2), 1 << 63, u64::MAX].iter().for_each(|set| add(&|asked| asked.set = *set));
+    let last = 1 << (n + flag % 2 - 1);
+    [0, 1, last, last | 1, last << 1, last << 1 | 1, 1 << 63, u64::MAX].iter().for_each(|set| add(&|asked| asked.set = *set));
     let (sum, reading) = (SUM_LIMIT as i64, READING_LIMIT as i32);
     [sum, -sum, sum + 1, -sum - 1, i64::MIN, i64::MAX].iter().for_each(|sum| add(&|asked| asked.sum = *sum));
     let far = [reading, -reading, reading + 1, -reading - 1, i32::MIN, i32::MAX];
     far.iter().for_each(|reading| add(&|asked| asked.readings.iter_mut().last().into_iter().for_each(|last| *last = *reading)));
+    // One standard beside what is looked for right before it, 6 and 7, and right after it, 8; and beside both.
+    for (wrong_sum, far_reading, unbalanced) in [(true, false, false), (false, true, false), (true, true, false), (false, false, true)] {
+        add(&|asked| {
+            asked.set = last;
+            asked.sum = if wrong_sum { sum + 1 } else { asked.sum };
+            asked.readings.iter_mut().filter(|_| far_reading).for_each(|one| *one = reading + 1);
+            // the first initial block again and again
+            let first = asked.objects[..2 * p].to_vec();
+            asked.objects = if unbalanced { first.repeat(m) } else { asked.objects.clone() };
+        });
+    }
     all
 }
 
@@ -185,7 +203,7 @@ pub fn harm(asked: &mut Asked, seed: &mut Seed) {
         asked.objects.iter_mut().last().into_iter().for_each(|object| *object = 254);
     }
     if seed.once_in(3) {
-        asked.set = 0;
+        asked.set = seed.pick(&[0, 1, 2]);
     }
     if seed.once_in(3) {
         asked.readings.iter_mut().last().into_iter().for_each(|reading| *reading = i32::MIN);

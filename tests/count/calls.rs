@@ -104,7 +104,7 @@ macro_rules! passed {
 /// The tests of what calls take: sizes and blocks, readings, a restraint; and of what they need.
 const DESIGN: &[Test] = &[Test::Sizes, Test::BlocksLength, Test::Objects];
 const READINGS: &[Test] = &[Test::ReadingsLength, Test::Readings];
-const RESTRAINT: &[Test] = &[Test::Restraint];
+const RESTRAINT: &[Test] = &[Test::Restraint, Test::Standards];
 const BALANCE: &[Test] = &[Test::Balance];
 
 /// Every call, in the order of hosts/bench.h.

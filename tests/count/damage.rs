@@ -11,7 +11,7 @@ pub struct Trial {
 }
 
 /// Harm to the parts of a job, which is then written with the lengths of what it has, and harm to the written bytes.
-const TO_PARTS: [(&str, fn(&mut Draft, &mut Seed)); 13] = [
+const TO_PARTS: [(&str, fn(&mut Draft, &mut Seed)); 14] = [
     ("object out of range", object_out_of_range),
     ("infinity", infinity),
     ("object twice", object_twice),
@@ -20,6 +20,7 @@ const TO_PARTS: [(&str, fn(&mut Draft, &mut Seed)); 13] = [
     ("objects exchanged", objects_exchanged),
     ("initial block dropped", initial_block_dropped),
     ("restraint", restraint),
+    ("one standard", one_standard),
     ("sum", sum),
     ("reading", reading),
     ("several readings", several_readings),
@@ -99,7 +100,8 @@ fn whole(seed: &mut Seed) -> (Design, Draft) {
     let restraint = match seed.below(5) {
         0 => 3,
         1 => every,
-        2 => 1 << seed.below(v as usize),
+        // one standard, which is too few; mostly another beside it
+        2 => 1 << seed.below(v as usize) | if seed.once_in(4) { 0 } else { 1 << seed.below(v as usize) },
         _ => seed.next() & every,
     };
     let sum = match seed.below(5) {
@@ -113,7 +115,7 @@ fn whole(seed: &mut Seed) -> (Design, Draft) {
         flag: design.flag,
         p: design.p,
         m: design.m() as u8,
-        restraint: if restraint == 0 { 1 } else { restraint },
+        restraint: if restraint == 0 { 3 } else { restraint },
         sum,
         readings: readings(&design, seed),
         objects: design.objects.clone(),
@@ -239,6 +241,16 @@ fn restraint(draft: &mut Draft, seed: &mut Seed) {
         5 => at(v.wrapping_sub(1)),
         _ => 1 << seed.below(64),
     };
+}
+
+/// One object of the design alone; mostly with what is looked for right before it or right after it.
+fn one_standard(draft: &mut Draft, seed: &mut Seed) {
+    draft.restraint = 1 << seed.below(usize::from(draft.n).clamp(1, 50));
+    match seed.below(3) {
+        0 => draft.sum = seed.pick(&[1_000_000_001, -1_000_000_001]),
+        1 => several_readings(draft, seed),
+        _ => {}
+    }
 }
 
 fn sum(draft: &mut Draft, seed: &mut Seed) {

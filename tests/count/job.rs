@@ -173,6 +173,9 @@ pub fn read(bytes: &[u8]) -> Result<Job, Refusal> {
     if !is_restraint(&head, &set, sum) {
         return refused(7, restraint_place);
     }
+    if is_one_standard(&set) {
+        return refused(11, restraint_place);
+    }
     let readings: Vec<i128> = readings.chunks(4).map(signed).collect();
     if let Some(index) = first_far(&readings) {
         return refused(8, readings_place + 4 * index);
@@ -188,6 +191,11 @@ pub fn members(set: u64) -> BTreeSet<usize> {
 /// Whether a set has objects, all of this design, and its accepted sum is in range.
 pub fn is_restraint(head: &Head, set: &BTreeSet<usize>, sum: i128) -> bool {
     !set.is_empty() && set.iter().all(|object| *object < head.objects()) && sum.abs() <= SUM_LIMIT
+}
+
+/// Whether a set has one object: nothing would show that this standard is bad.
+pub fn is_one_standard(set: &BTreeSet<usize>) -> bool {
+    set.len() == 1
 }
 
 /// The index of the first reading out of range.
@@ -211,7 +219,7 @@ pub fn first_unclean(head: &Head, objects: &[u8]) -> Option<usize> {
 }
 
 /// A signed number from its bytes, the highest first.
-fn signed(bytes: &[u8]) -> i128 {
+pub fn signed(bytes: &[u8]) -> i128 {
     let whole = bytes.iter().fold(0i128, |sum, byte| sum * 256 + i128::from(*byte));
     let range = 1i128 << (8 * bytes.len());
     if whole >= range / 2 {

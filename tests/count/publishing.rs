@@ -44,9 +44,9 @@ pub enum Feature {
     NegativeMember,
     /// a tie at the cut of values below 0
     NegativeTie,
-    /// the restraint has all objects, or one
+    /// the restraint has all objects, or two, the fewest
     AllObjects,
-    OneObject,
+    TwoObjects,
     /// the members, each rounded alone, would not add to 100 times the accepted sum
     RoundingFails,
 }
@@ -59,7 +59,7 @@ impl Feature {
         Feature::NegativeMember,
         Feature::NegativeTie,
         Feature::AllObjects,
-        Feature::OneObject,
+        Feature::TwoObjects,
         Feature::RoundingFails,
     ];
 }
@@ -79,7 +79,7 @@ pub fn features(job: &Job, results: &Results) -> BTreeSet<Feature> {
         (Feature::NegativeMember, line.iter().any(|object| below(*object))),
         (Feature::NegativeTie, tie && below(line[given - 1]) && below(line[given])),
         (Feature::AllObjects, line.len() == job.head.objects()),
-        (Feature::OneObject, line.len() == 1),
+        (Feature::TwoObjects, line.len() == 2),
         (Feature::RoundingFails, rounded != 100 * job.sum),
     ]
     .into_iter()

@@ -141,12 +141,29 @@ fn refusals(figures: &mut Figures) {
         ("refused-5-infinity", "refused 5 11\n"),
         ("refused-5-infinity-flag2", "refused 5 11\n"),
         ("refused-6", "refused 6 0\n"),
+        ("refused-6-standard", "refused 6 0\n"),
         ("refused-7", "refused 7 14\n"),
         ("refused-7-sum", "refused 7 14\n"),
+        ("refused-7-standard", "refused 7 14\n"),
         ("refused-8", "refused 8 44\n"),
         ("refused-9", "refused 9 56\n"),
+        ("refused-11", "refused 11 14\n"),
+        ("refused-11-reading", "refused 11 14\n"),
     ] {
         figures.same(name, listing(&bytes_of(name)), wanted.to_string());
+    }
+    // every set of A's objects and one that is none of them: 7 for none or the stranger, 11 for one, else accepted
+    for set in 0..64u8 {
+        let mut bytes = A.to_vec();
+        bytes[24] = set;
+        let wanted = match set.count_ones() {
+            0 => 7,
+            _ if set >= 32 => 7,
+            1 => 11,
+            _ => 0,
+        };
+        let found = job::read(&bytes).err().map_or((0, 0), |refusal| (refusal.number, refusal.place));
+        figures.same("a set of A", found, (wanted, if wanted == 0 { 0 } else { 14 }));
     }
     for length in 0..A.len() {
         let start = [33, 14, 7, 0].into_iter().find(|start| length >= *start).expect("0 is below all");
@@ -185,7 +202,7 @@ const COLUMNS: &[Column] = &[
     ("members apart from one another, the others rounded", &[(1, 3), (1, 6), (1, 3), (-1, 6), (1, 3)], &[0, 2, 4], 1, &[34, 17, 33, -17, 33]),
     ("parts of 1/3, 2/3, 1/3, 2/3: the two larger gain", &[(1, 3), (2, 3), (1, 3), (2, 3)], &[0, 1, 2, 3], 2, &[33, 67, 33, 67]),
     ("five of 1/40 short by two at 2 1/2, one of 7/8", &[(1, 40), (1, 40), (1, 40), (1, 40), (1, 40), (7, 8)], &[0, 1, 2, 3, 4, 5], 1, &[3, 3, 3, 2, 2, 87]),
-    ("a single member has its accepted sum", &[(1, 3), (-7, 1), (2, 3)], &[1], -7, &[33, -700, 67]),
+    ("two members, of which the one below 0 has the larger part", &[(1, 3), (-22, 3), (2, 3)], &[0, 1], -7, &[33, -733, 67]),
 ];
 
 fn publishing(figures: &mut Figures) {
@@ -213,7 +230,13 @@ fn seeds(figures: &mut Figures) {
         for job in bytes.iter().filter_map(|bytes| job::read(bytes).ok()) {
             features(&job, &solve(&job)).into_iter().for_each(|feature| *often.entry(feature).or_insert(0) += 1);
         }
-        println!("{about}: {often:?}");
+        let mut alone = BTreeMap::new();
+        bytes.iter().filter_map(|bytes| one_standard(bytes)).for_each(|kind| *alone.entry(kind).or_insert(0) += 1);
+        println!("{about}: {often:?}, one standard: {alone:?}");
+        for (kind, least) in ALONE {
+            let count = alone.get(kind).copied().unwrap_or(0);
+            figures.same(&format!("{about}: {kind} in {count} of them"), count >= *least, true);
+        }
         for feature in Feature::ALL {
             let count = often.get(&feature).copied().unwrap_or(0);
             figures.same(&format!("{about}: {feature:?} in {count} of them"), count >= least, true);
@@ -243,6 +266,25 @@ fn fields(figures: &mut Figures) {
                 }
             }
         }
+    }
+}
+
+/// What can be wrong beside one standard, so that the order shows, and how often at least the seeded jobs have it.
+const ALONE: &[(&str, usize)] = &[("11 alone", 3), ("11 before 8", 1), ("6 before 11", 3), ("7 before 11", 1)];
+
+/// Which of these a file is. Its fields are whole where 6, 7 or 11 is looked for.
+fn one_standard(bytes: &[u8]) -> Option<&'static str> {
+    let refusal = job::read(bytes).err().filter(|refusal| [6, 7, 11].contains(&refusal.number))?;
+    let third = 10 + 2 * usize::from(bytes[5]) * usize::from(bytes[6]);
+    let set = bytes[third + 3..third + 11].iter().fold(0, |word, byte| word << 8 | u64::from(*byte));
+    let is_object = set.trailing_zeros() < u32::from(bytes[3]) + u32::from(bytes[4]) % 2;
+    let far = job::first_far(&bytes[third + 22..].chunks(4).map(job::signed).collect::<Vec<_>>()).is_some();
+    match refusal.number {
+        _ if set.count_ones() != 1 || !is_object => None,
+        6 => Some("6 before 11"),
+        7 => Some("7 before 11"),
+        _ if far => Some("11 before 8"),
+        _ => Some("11 alone"),
     }
 }
 

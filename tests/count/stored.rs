@@ -163,8 +163,8 @@ fn at_the_ends() -> Vec<Example> {
         example("end-smallest", "three objects, three blocks", over(&all_pairs(3, 0, 1), 7, 0, small(6)).file()),
         example("end-even", "36 objects, the half difference once", over(&all_pairs(36, 0, 1), 1 << 35 | 1, 1, small(7)).file()),
         example("end-no-spread", "four objects, no degree of freedom", over(&balanced::squares(3), 9, 5, small(8)).file()),
-        example("end-spread-0", "readings all 0: a spread of 0 is not none", over(&all_pairs(5, 0, 1), 1, 1, Box::new(|count| vec![0; count])).file()),
-        example("end-lowest", "all readings at the lowest", over(&all_pairs(9, 1, 3), 1 << 9, -1_000_000_000, Box::new(|count| vec![-200_000; count])).file()),
+        example("end-spread-0", "readings all 0: a spread of 0 is not none", over(&all_pairs(5, 0, 1), 3, 1, Box::new(|count| vec![0; count])).file()),
+        example("end-lowest", "all readings at the lowest", over(&all_pairs(9, 1, 3), 1 << 9 | 1, -1_000_000_000, Box::new(|count| vec![-200_000; count])).file()),
     ];
     let changed = |places: &[(usize, u8)]| {
         let mut bytes = A.to_vec();
@@ -198,10 +198,14 @@ fn at_the_ends() -> Vec<Example> {
         example("refused-5-infinity", "the fixed object twice", fixed_twice.file()),
         example("refused-5-infinity-flag2", "the fixed object with the flag 2", in_nine(2, vec![0, 255])),
         example("refused-6", "unbalanced, and a restraint with no object", Draft { restraint: 0, ..seeded(4, 0, "0 | 1", 21) }.file()),
+        example("refused-6-standard", "unbalanced, and one standard", Draft { restraint: 1, ..seeded(4, 0, "0 | 1", 22) }.file()),
         example("refused-7", "a restraint with an object too many, and a reading out of range", changed(&[(24, 32), (36, 127)])),
         example("refused-7-sum", "a sum out of its range", changed(&[(25, 128)])),
+        example("refused-7-standard", "one standard, and a sum out of its range", changed(&[(24, 1), (25, 128)])),
         example("refused-8", "two readings out of range", changed(&[(45, 255), (49, 4)])),
         example("refused-9", "more bytes than are read, and an object twice", [&changed(&[(12, 4)])[..], &[0; 9000]].concat()),
+        example("refused-11", "one standard", changed(&[(24, 16)])),
+        example("refused-11-reading", "one standard, and a reading out of range", changed(&[(24, 1), (36, 127)])),
     ]);
     all
 }

@@ -283,6 +283,9 @@ pub fn solve(bytes: &[u8], words: &mut [u64], values: &mut [i64], deviations: &m
     if set == 0 || set >> v != 0 || sum.unsigned_abs() > 1_000_000_000 {
         return Err((7, third));
     }
+    if set.count_ones() == 1 {
+        return Err((11, third));
+    }
     if let Some(k) = readings.iter().position(|y| y.unsigned_abs() > 200_000) {
         return Err((8, third + 22 + 4 * k));
     }

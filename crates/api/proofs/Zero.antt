@@ -12,6 +12,7 @@ use Rattle.records.specs.declared.Head.{Head}
 use Rattle.records.specs.declared.Verdict.{Verdict}
 use Rattle.records.specs.declared.Verdict.the-variants.{Accepted, Refused}
 use Rattle.meaning.specs.Design.{objects, blocks, listLength, sized, balanced}
+use Rattle.meaning.specs.Analysis.{members}
 use Rattle.meaning.specs.Refusals.{_⨾_, sumLimit, offender, farReading, sizes, lengthIs, clean, exists, inBalance, restraint, inReach, room}
 use Rattle.meaning.specs.Calls.{
   designVerdict,
@@ -89,7 +90,8 @@ balance-numbered : (h : Head) (d : List ℕ) → Numbered (inBalance h d)
 balance-numbered h d = numbered-test (balanced h d) 5 0
 
 restraint-numbered : (h : Head) (w : ℕ) (M : ℤ) → Numbered (restraint h w M)
-restraint-numbered h w M = numbered-test (ltb 0 w && ltb w (2 ^ objects h) && leb (natAbs M) sumLimit) 6 0
+restraint-numbered h w M =
+    numbered-then (numbered-test (ltb 0 w && ltb w (2 ^ objects h) && leb (natAbs M) sumLimit) 6 0) (numbered-test (leb 2 (members (objects h) w)) 10 0)
 
 reach-numbered : (y : List ℤ) → Numbered (inReach y)
 reach-numbered y = numbered-test (eqb (farReading y) (length y)) 7 (farReading y)

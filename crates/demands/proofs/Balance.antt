@@ -14,7 +14,7 @@ use Rattle.laws.proofs.Chains.{opened, held, test-yes, accepts, goes-on, accept
 use Rattle.laws.proofs.Counting.{accepts-exactly, balanced-is}
 use Rattle.laws.proofs.Files.{file-job, file-slices, job-file, read-moved}
 use Rattle.demands.specs.Job.{Job, jobIn, verdictOf, IsBalanced}
-use Rattle.demands.specs.Refusals.{five, six, eight, blocksClean, restraintFits, readingsFit}
+use Rattle.demands.specs.Refusals.{five, six, seven, eleven, eight, blocksClean, restraintFits, twoStandards, readingsFit}
 use Rattle.demands.specs.Papers.{WellFormed}
 use Rattle.demands.specs.Answers.{WellFormedJob}
 
@@ -57,7 +57,8 @@ job-well-formed j e =
     record {
       in-order = a .0;
       blocks-clean = held _ _ _ (d .0);
-      restraint-fits = held _ _ _ (c .1);
+      restraint-fits = held _ _ _ (opened (seven j) (eleven j) (c .1) .0);
+      two-standards = held _ _ _ (opened (seven j) (eleven j) (c .1) .1);
       readings-fit = held _ _ _ (b .1);
     }
 
@@ -78,7 +79,7 @@ module _ (j : Job) (well : WellFormedJob j) where
     λ e. (_, _, balanced-is (j .head) (j .initial) (job (j .head) (j .initial) (j .readings) (j .set) (j .sum) e .measures .even)),
     λ b. accepts in-slices (accepts (accepts (accepts (test-yes (blocksClean j) 5 _ (well .blocks-clean))
         (test-yes (balanced (j .head) (j .initial)) 6 0 (test-exactly j in-design b)))
-        (test-yes (restraintFits j) 7 0 (well .restraint-fits))) (test-yes (readingsFit j) 8 _ (well .readings-fit))),
+        (accepts (test-yes (restraintFits j) 7 0 (well .restraint-fits)) (test-yes (twoStandards j) 11 0 (well .two-standards)))) (test-yes (readingsFit j) 8 _ (well .readings-fit))),
   )
 
   pub job-unbalanced : (IsBalanced j → ⊥) → verdictOf j ≡ refused 6 0
@@ -86,9 +87,9 @@ module _ (j : Job) (well : WellFormedJob j) where
   job-unbalanced un = goes-on _ in-slices ∙ rw (well .blocks-clean, not-balanced j un)
 
 -- the calls that take no restraint have the verdict of the whole job with one that fits
-pub no-restraint : (j : Job) → restraintFits j ≡ true → readingsVerdict (j .head) (j .initial) (j .readings) ≡ verdictOf j
+pub no-restraint : (j : Job) → restraintFits j ≡ true → twoStandards j ≡ true → readingsVerdict (j .head) (j .initial) (j .readings) ≡ verdictOf j
 unfolding readingsVerdict jobVerdict contents
-no-restraint j fits = rw fits (same (slices (j .head) (j .initial) (j .readings)) (five j) (six j) (eight j))
+no-restraint j fits two = rw (fits, two) (same (slices (j .head) (j .initial) (j .readings)) (five j) (six j) (eight j))
   where
     same : (a b c e : Verdict) → a ⨾ b ⨾ c ⨾ e ≡ a ⨾ (b ⨾ c ⨾ accepted ⨾ e)
     same Accepted b c e = ap (λ (v : Verdict). v ⨾ e) (sym (accepted-last (b ⨾ c)))
@@ -104,6 +105,7 @@ module _ (s : List ℕ) (well : WellFormed (fields s) (jobIn s)) where
     in-order = file-slices s (well .in-order);
     blocks-clean = well .blocks-clean;
     restraint-fits = well .restraint-fits;
+    two-standards = well .two-standards;
     readings-fit = well .readings-fit;
   }
 
@@ -121,4 +123,4 @@ pub file-well-formed : (s : List ℕ) → readVerdict s ≡ accepted → WellFor
 file-well-formed s e =
     let a = file-job s e in
     let w = job-well-formed (jobIn s) (a .1) in
-    record { in-order = a .0; blocks-clean = w .blocks-clean; restraint-fits = w .restraint-fits; readings-fit = w .readings-fit }
+    record { in-order = a .0; blocks-clean = w .blocks-clean; restraint-fits = w .restraint-fits; two-standards = w .two-standards; readings-fit = w .readings-fit }

@@ -25,22 +25,26 @@ use Rattle.meaning.specs.Calls.{
   analyseVerdict,
 }
 use Rattle.demands.specs.Job.{Job, v, b, verdictOf}
-use Rattle.demands.specs.Refusals.{four, threeBlocks, threeReadings, five, six, seven, eight, ten}
+use Rattle.demands.specs.Refusals.{four, threeBlocks, threeReadings, five, fiveFor, six, seven, eleven, eight, ten}
 use Rattle.demands.specs.Calls.{Demand1Calls}
 
 -- tests after others, taken out of their chain
-four-out : (a b c e f : Verdict) → a ⨾ (b ⨾ c ⨾ e ⨾ f) ≡ a ⨾ b ⨾ c ⨾ e ⨾ f
-four-out Accepted b c e f = refl
-four-out (Refused k at) b c e f = refl
+two-out : (a b c : Verdict) → a ⨾ (b ⨾ c) ≡ a ⨾ b ⨾ c
+two-out Accepted b c = refl
+two-out (Refused k at) b c = refl
+
+four-out : (a b c e g f : Verdict) → a ⨾ (b ⨾ c ⨾ (e ⨾ g) ⨾ f) ≡ a ⨾ b ⨾ c ⨾ e ⨾ g ⨾ f
+four-out Accepted b c e g f = ap (λ (v : Verdict). v ⨾ f) (two-out (b ⨾ c) e g)
+four-out (Refused k at) b c e g f = refl
 
 three-out : (a b c e : Verdict) → a ⨾ (b ⨾ c ⨾ e) ≡ a ⨾ b ⨾ c ⨾ e
 three-out Accepted b c e = refl
 three-out (Refused k at) b c e = refl
 
--- a whole job: 4, 3, 3, 5, 6, 7, 8
-pub job-flat : (j : Job) → verdictOf j ≡ four j ⨾ threeBlocks j ⨾ threeReadings j ⨾ five j ⨾ six j ⨾ seven j ⨾ eight j
+-- a whole job: 4, 3, 3, 5, 6, 7, 11, 8
+pub job-flat : (j : Job) → verdictOf j ≡ four j ⨾ threeBlocks j ⨾ threeReadings j ⨾ five j ⨾ six j ⨾ seven j ⨾ eleven j ⨾ eight j
 unfolding jobVerdict slices contents
-job-flat j = four-out (four j ⨾ threeBlocks j ⨾ threeReadings j) (five j) (six j) (seven j) (eight j)
+job-flat j = four-out (four j ⨾ threeBlocks j ⨾ threeReadings j) (five j) (six j) (seven j) (eleven j) (eight j)
 
 pub refusing : (j : Job) → Demand1Calls j
 unfolding developVerdict initialVerdict designVerdict judgeVerdict squaredReadingsVerdict squaredTotalsVerdict totalVerdict readingsVerdict slices
@@ -58,7 +62,10 @@ refusing j = record {
   deviation-of = λ i. (refl, λ k at e. rw e);
   whole-job = job-flat j;
   values-of-all = λ values. (ap (λ (a : Verdict). a ⨾ ten (length values) (v j)) (job-flat j), λ k at e. rw e);
-  value-of = λ i. (refl, λ k at e. rw e);
+  value-of = λ i. (
+    ap (λ (a : Verdict). a ⨾ eight j) (two-out (four j ⨾ threeBlocks j ⨾ threeReadings j ⨾ five j ⨾ fiveFor i (v j) ⨾ six j) (seven j) (eleven j)),
+    λ k at e. rw e,
+  );
   analysis = λ words values deviations. (
     three-out (verdictOf j) (ten (length words) (2 * b j)) (ten (length values) (v j)) (ten (length deviations) (b j))
         ∙ ap (λ (a : Verdict). a ⨾ ten (length words) (2 * b j) ⨾ ten (length values) (v j) ⨾ ten (length deviations) (b j)) (job-flat j),

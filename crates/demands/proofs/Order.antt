@@ -49,6 +49,7 @@ use Rattle.demands.specs.Refusals.{
   long,
   blocksClean,
   restraintFits,
+  twoStandards,
   readingsFit,
   four,
   six,
@@ -70,15 +71,16 @@ field-flat Accepted s at tag len = refl
 field-flat (Refused k place) s at tag len = refl
 
 -- the tests of what a file holds after others, moved to their places
-contents-flat : (a : Verdict) (s : List ℕ) (t5 t6 t7 t8 : Bool) (i k : ℕ) →
-    a ⨾ placed s (test t5 5 i ⨾ test t6 6 0 ⨾ test t7 7 0 ⨾ test t8 8 k)
-    ≡ a ⨾ test t5 5 (blocksAt + i) ⨾ test t6 6 0 ⨾ test t7 7 (thirdAt s) ⨾ test t8 8 (readingsAt s + 4 * k)
-contents-flat (Refused n place) s t5 t6 t7 t8 i k = refl
-contents-flat Accepted s false t6 t7 t8 i k = refl
-contents-flat Accepted s true false t7 t8 i k = refl
-contents-flat Accepted s true true false t8 i k = refl
-contents-flat Accepted s true true true false i k = refl
-contents-flat Accepted s true true true true i k = refl
+contents-flat : (a : Verdict) (s : List ℕ) (t5 t6 t7 t11 t8 : Bool) (i k : ℕ) →
+    a ⨾ placed s (test t5 5 i ⨾ test t6 6 0 ⨾ (test t7 7 0 ⨾ test t11 11 0) ⨾ test t8 8 k)
+    ≡ a ⨾ test t5 5 (blocksAt + i) ⨾ test t6 6 0 ⨾ test t7 7 (thirdAt s) ⨾ test t11 11 (thirdAt s) ⨾ test t8 8 (readingsAt s + 4 * k)
+contents-flat (Refused n place) s t5 t6 t7 t11 t8 i k = refl
+contents-flat Accepted s false t6 t7 t11 t8 i k = refl
+contents-flat Accepted s true false t7 t11 t8 i k = refl
+contents-flat Accepted s true true false t11 t8 i k = refl
+contents-flat Accepted s true true true false t8 i k = refl
+contents-flat Accepted s true true true true false i k = refl
+contents-flat Accepted s true true true true true i k = refl
 
 module _ (s : List ℕ) where
   -- the tests up to the first field with its sizes, up to the second, up to the third, and all four with 9 after them
@@ -95,9 +97,10 @@ module _ (s : List ℕ) where
   all = three ⨾ start s (fourthAt s) ⨾ tagged s (fourthAt s) 4 ⨾ long s (fourthAt s) (4 * b (jobIn s)) ⨾ body s (fourthAt s) (4 * b (jobIn s))
       ⨾ test (eqb (endAt s) (length s)) 9 (endAt s)
 
-  -- after the fields 5, 6, 7, 8
+  -- after the fields 5, 6, 7, 11, 8
   abbrev then : Verdict → Verdict
   then a = a ⨾ test (blocksClean (jobIn s)) 5 (blocksAt + offender (headOf s) (blocksOf s)) ⨾ six (jobIn s) ⨾ test (restraintFits (jobIn s)) 7 (thirdAt s)
+      ⨾ test (twoStandards (jobIn s)) 11 (thirdAt s)
       ⨾ test (readingsFit (jobIn s)) 8 (readingsAt s + 4 * farReading (readingsOf s))
 
   -- the fields of the definition are these
@@ -111,7 +114,7 @@ module _ (s : List ℕ) where
   pub file-order : readVerdict s ≡ fileTests s
   unfolding readVerdict contents
   file-order =
-      contents-flat (fields s) s (blocksClean (jobIn s)) (balanced (headOf s) (blocksOf s)) (restraintFits (jobIn s)) (readingsFit (jobIn s))
+      contents-flat (fields s) s (blocksClean (jobIn s)) (balanced (headOf s) (blocksOf s)) (restraintFits (jobIn s)) (twoStandards (jobIn s)) (readingsFit (jobIn s))
       (offender (headOf s) (blocksOf s)) (farReading (readingsOf s))
       ∙ ap then fields-flat
 
@@ -187,6 +190,7 @@ module _ (s : List ℕ) where
       (lists-then s _ _
       (lists-then s _ _
       (lists-then s _ _
+      (lists-then s _ _
       (lists-field s _ (fourthAt s) 4 (4 * b (jobIn s)) fourth
       (lists-field s _ (thirdAt s) 3 16 third
       (lists-field s _ secondAt 2 (listLength (headOf s)) second
@@ -197,6 +201,7 @@ module _ (s : List ℕ) where
       (lists-test s (blocksClean (jobIn s)) 5 _ (λ e. Listed.object (offender (headOf s) (blocksOf s)) (offender-inside e))))
       (lists-test s (balanced (headOf s) (blocksOf s)) 6 0 (λ e. Listed.unbalanced)))
       (lists-test s (restraintFits (jobIn s)) 7 (thirdAt s) (λ e. Listed.restraint)))
+      (lists-test s (twoStandards (jobIn s)) 11 (thirdAt s) (λ e. Listed.one-standard)))
       (lists-test s (readingsFit (jobIn s)) 8 _ (λ e. Listed.reading (farReading (readingsOf s)) (far-inside e)))
 
   pub reading-ends : Ends s (readVerdict s)

@@ -23,7 +23,7 @@ use Rattle.meaning.specs.Writing.{bytesOf, readingsBody, fileOf}
 use Rattle.meaning.proofs.Rows.{head, alike}
 use Rattle.meaning.proofs.Examples.{fileA}
 use Rattle.demands.specs.Job.{Job, jobIn, verdictOf, exact, squares, published as publishedOf}
-use Rattle.demands.specs.Refusals.{four, threeBlocks, threeReadings, five, fiveFor, six, seven, eight, ten, fileTests}
+use Rattle.demands.specs.Refusals.{four, threeBlocks, threeReadings, five, fiveFor, six, seven, eleven, eight, ten, fileTests}
 use Rattle.demands.specs.Outcomes.{wordsAfter}
 use Rattle.demands.specs.Fractions.{distance, dividedBy, hundredths}
 use Rattle.demands.specs.Papers.{standardDeviationSquared}
@@ -85,6 +85,8 @@ fileRows =
     ∷ says (fileTests (set (set fileA 11 9) 13 9)) 5 11
     ∷ says (fileTests (set (set fileA 11 0) 24 0)) 6 0
     ∷ says (fileTests (set (set fileA 24 0) 40 127)) 7 14
+    ∷ says (fileTests (set (set fileA 24 1) 40 127)) 11 14
+    ∷ says (fileTests (set (set fileA 24 1) 25 127)) 7 14
     ∷ says (fileTests (set (set fileA 40 127) 44 127)) 8 40
     ∷ []
 
@@ -107,6 +109,8 @@ callRows =
     ∷ says (seven (three pair ys 8 (pos 0))) 7 0
     ∷ says (seven (three pair ys 7 (negsuc 999999999))) 0 0
     ∷ says (seven (three pair ys 7 (pos 1000000001))) 7 0
+    ∷ says (eleven (three pair ys 4 (pos 0))) 11 0
+    ∷ says (eleven (three pair ys 5 (pos 0))) 0 0
     ∷ says (eight (three pair (pos 200000 ∷ negsuc 200000 ∷ pos 200001 ∷ []) 1 (pos 0))) 8 1
     ∷ says (ten 5 6) 10 0
     ∷ says (ten 6 6) 0 0
@@ -167,7 +171,7 @@ abbrev pub refusalRows : List Row
 refusalRows = fileRows ++ callRows ++ roomRows
 
 pub refusal-rows : every refusalRows ≡ true
-unfolding fieldPrime sized occ digitSum plus left right company opposition balanced offender farReading big numbersAt slices contents jobVerdict rooms fieldVerdict fields
+unfolding members fieldPrime sized occ digitSum plus left right company opposition balanced offender farReading big numbersAt slices contents jobVerdict rooms fieldVerdict fields
     readVerdict solveVerdict word wordAt writtenOver sumℕ firstFrom
 refusal-rows = refl
 

@@ -54,7 +54,7 @@ use Rattle.meaning.specs.Calls.{
   solvedUnder,
 }
 use Rattle.demands.specs.Job.{Job, v, b, verdictOf, IsBalanced}
-use Rattle.demands.specs.Refusals.{four, threeBlocks, threeReadings, restraintFits}
+use Rattle.demands.specs.Refusals.{four, threeBlocks, threeReadings, restraintFits, twoStandards}
 use Rattle.demands.specs.Outcomes.{OnAcceptance, WritesOnly}
 use Rattle.demands.specs.Papers.{WellFormed, Developed, PapersParameters, PapersFractions}
 
@@ -75,7 +75,7 @@ module _ (j : Job) where
     pub accepted-well-formed : verdictOf j ≡ accepted → WellFormedJob
     pub accepted-has-a-design : verdictOf j ≡ accepted → judgeVerdict h d ≡ accepted
     -- (deviations, Q and spread take no restraint: theirs is the verdict of the job with any restraint that fits)
-    pub no-restraint-needed : restraintFits j ≡ true → readingsVerdict h d y ≡ verdictOf j
+    pub no-restraint-needed : restraintFits j ≡ true → twoStandards j ≡ true → readingsVerdict h d y ≡ verdictOf j
     -- Parameters, values and deviations are the paper's whole-number fractions, the spread its standard deviation cut to hundredths, each f64 the one
     -- rounded quotient
     pub developed : designVerdict h d ≡ accepted → Developed j

@@ -43,7 +43,7 @@ use Rattle.meaning.specs.Calls.{
   solvedUnder,
 }
 use Rattle.demands.specs.Job.{Job, v, b, verdictOf}
-use Rattle.demands.specs.Refusals.{four, threeBlocks, threeReadings, five, fiveFor, six, seven, eight, ten}
+use Rattle.demands.specs.Refusals.{four, threeBlocks, threeReadings, five, fiveFor, six, seven, eleven, eight, ten}
 use Rattle.demands.specs.Outcomes.{OnRefusal}
 
 module _ (j : Job) where
@@ -99,18 +99,18 @@ module _ (j : Job) where
     -- ---- a whole job
 
     -- `refusal`: its verdict alone
-    pub whole-job : verdictOf j ≡ four j ⨾ threeBlocks j ⨾ threeReadings j ⨾ five j ⨾ six j ⨾ seven j ⨾ eight j
+    pub whole-job : verdictOf j ≡ four j ⨾ threeBlocks j ⨾ threeReadings j ⨾ five j ⨾ six j ⨾ seven j ⨾ eleven j ⨾ eight j
     -- `values`: the numerators of all
     pub values-of-all : (values : List ℤ) → let verdict = valuesVerdict h d y w M (length values) in
-        (verdict ≡ four j ⨾ threeBlocks j ⨾ threeReadings j ⨾ five j ⨾ six j ⨾ seven j ⨾ eight j ⨾ ten (length values) (v j))
+        (verdict ≡ four j ⨾ threeBlocks j ⨾ threeReadings j ⨾ five j ⨾ six j ⨾ seven j ⨾ eleven j ⨾ eight j ⨾ ten (length values) (v j))
         × OnRefusal verdict (valuesUnder verdict h d y w M values) values
     -- `value_of`: of object i; the number of a missing one comes after the other 5 and before 6
     pub value-of : (i : ℕ) → let verdict = valueVerdict h d y w M i in
-        (verdict ≡ four j ⨾ threeBlocks j ⨾ threeReadings j ⨾ five j ⨾ fiveFor i (v j) ⨾ six j ⨾ seven j ⨾ eight j)
+        (verdict ≡ four j ⨾ threeBlocks j ⨾ threeReadings j ⨾ five j ⨾ fiveFor i (v j) ⨾ six j ⨾ seven j ⨾ eleven j ⨾ eight j)
         × OnRefusal verdict (valueAnswer h d y w M i) (record { verdict = verdict; value = noValue })
     -- `analyse`: everything at once, into three rooms
     pub analysis : (words : List ℕ) (values deviations : List ℤ) → let verdict = analyseVerdict h d y w M (length words) (length values) (length deviations) in
-        (verdict ≡ four j ⨾ threeBlocks j ⨾ threeReadings j ⨾ five j ⨾ six j ⨾ seven j ⨾ eight j
+        (verdict ≡ four j ⨾ threeBlocks j ⨾ threeReadings j ⨾ five j ⨾ six j ⨾ seven j ⨾ eleven j ⨾ eight j
         ⨾ ten (length words) (2 * b j) ⨾ ten (length values) (v j) ⨾ ten (length deviations) (b j))
         × OnRefusal verdict (wordsUnder verdict h d words) words
         × OnRefusal verdict (valuesUnder verdict h d y w M values) values

@@ -35,15 +35,16 @@ use Rattle.meaning.specs.Fractions.{Fraction, squared, _≤ᶠ_, _<ᶠ_, deviat
 use Rattle.meaning.specs.Refusals.{accepted}
 use Rattle.meaning.specs.Calls.{wordAt, companyTable, oppositionTable}
 use Rattle.demands.specs.Job.{Job, v, b, exact, squares}
-use Rattle.demands.specs.Refusals.{blocksClean, restraintFits, readingsFit}
+use Rattle.demands.specs.Refusals.{blocksClean, restraintFits, twoStandards, readingsFit}
 use Rattle.demands.specs.Fractions.{Same, dividedBy, hundredths}
 
 -- well-formed within the sizes: what it stands in is in order (a file's fields, or the sizes and lengths of slices), its blocks are clean, its restraint
--- and its readings are in range
+-- is in range and has two objects at least, and its readings are in range
 pub record WellFormed (standsIn : Verdict) (j : Job) : Type 0 where
   pub in-order : standsIn ≡ accepted
   pub blocks-clean : blocksClean j ≡ true
   pub restraint-fits : restraintFits j ≡ true
+  pub two-standards : twoStandards j ≡ true
   pub readings-fit : readingsFit j ≡ true
 
 module _ (j : Job) where

@@ -11,6 +11,7 @@ use lib.IntN.{natAbs}
 use lib.ListN.{length, getD}
 use Rattle.records.specs.declared.Verdict.{Verdict}
 use Rattle.meaning.specs.Design.{blocks, sized, listLength, balanced}
+use Rattle.meaning.specs.Analysis.{members}
 use Rattle.meaning.specs.Refusals.{accepted, refused, test, _⨾_, offender, farReading, sumLimit}
 use Rattle.meaning.specs.File.{big, headOf, secondAt, thirdAt, fourthAt, endAt, blocksAt, readingsAt}
 use Rattle.demands.specs.Job.{Job, jobIn, v, b}
@@ -43,6 +44,10 @@ module _ (j : Job) where
   abbrev pub restraintFits : Bool
   restraintFits = ltb 0 (j .set) && ltb (j .set) (2 ^ v j) && leb (natAbs (j .sum)) sumLimit
 
+  -- the restraint has two objects at least: one standard is too few
+  abbrev pub twoStandards : Bool
+  twoStandards = leb 2 (members (v j) (j .set))
+
   -- no reading is out of range
   abbrev pub readingsFit : Bool
   readingsFit = eqb (farReading (j .readings)) (length (j .readings))
@@ -70,6 +75,10 @@ module _ (j : Job) where
   abbrev pub seven : Verdict
   seven = test restraintFits 7 0
 
+  -- 11: one standard is too few
+  abbrev pub eleven : Verdict
+  eleven = test twoStandards 11 0
+
   -- 8: a reading is out of range; the place is the first one's index
   abbrev pub eight : Verdict
   eight = test readingsFit 8 (farReading (j .readings))
@@ -84,8 +93,8 @@ ten len want = test (leb want len) 10 0
 
 -- ---- a file
 
--- the tests in file order: each field's start, tag, length, body; 4 right after the first; 9 after the fourth; then 5 at that byte, 6, 7 at the field's
--- start, and 8 at the reading's first byte
+-- the tests in file order: each field's start, tag, length, body; 4 right after the first; 9 after the fourth; then 5 at that byte, 6, 7 and 11 at the
+-- field's start, and 8 at the reading's first byte
 abbrev pub fileTests : List ℕ → Verdict
 fileTests s =
     start s 0 ⨾ tagged s 0 1 ⨾ long s 0 4 ⨾ body s 0 4
@@ -97,6 +106,7 @@ fileTests s =
     ⨾ test (blocksClean (jobIn s)) 5 (blocksAt + offender (headOf s) (jobIn s .initial))
     ⨾ six (jobIn s)
     ⨾ test (restraintFits (jobIn s)) 7 (thirdAt s)
+    ⨾ test (twoStandards (jobIn s)) 11 (thirdAt s)
     ⨾ test (readingsFit (jobIn s)) 8 (readingsAt s + 4 * farReading (jobIn s .readings))
 
 -- a field of a file starts here
@@ -115,6 +125,7 @@ pub data Listed (s : List ℕ) : ℕ → ℕ → Type 0 where
   object : (i : ℕ) → i < listLength (headOf s) → Listed s 5 (blocksAt + i)
   unbalanced : Listed s 6 0
   restraint : Listed s 7 (thirdAt s)
+  one-standard : Listed s 11 (thirdAt s)
   reading : (k : ℕ) → k < blocks (headOf s) → Listed s 8 (readingsAt s + 4 * k)
   bytes-after : Listed s 9 (endAt s)
   short-room : Listed s 10 0

@@ -12,7 +12,7 @@ use Rattle.meaning.specs.Refusals.{accepted, _⨾_}
 use Rattle.meaning.specs.File.{fields, placed, readVerdict, readAnswer}
 use Rattle.meaning.specs.Writing.{Bytes, fileOf, ReadsAs, writeVerdict, writtenAnswer, writtenAfter}
 use Rattle.demands.specs.Job.{Job, jobIn, verdictOf}
-use Rattle.demands.specs.Refusals.{four, threeBlocks, threeReadings, five, six, seven, eight, ten}
+use Rattle.demands.specs.Refusals.{four, threeBlocks, threeReadings, five, six, seven, eleven, eight, ten}
 use Rattle.demands.specs.Outcomes.{OnRefusal}
 
 -- ---- a job, written from its parts
@@ -30,7 +30,7 @@ module _ (j : Job) where
 
   pub record WritingJobs : Type 0 where
     -- Refusals: as for direct calls, 6 included, 10 last
-    pub order : (len : ℕ) → writeVerdict h d y w M len ≡ four j ⨾ threeBlocks j ⨾ threeReadings j ⨾ five j ⨾ six j ⨾ seven j ⨾ eight j ⨾ ten len size
+    pub order : (len : ℕ) → writeVerdict h d y w M len ≡ four j ⨾ threeBlocks j ⨾ threeReadings j ⨾ five j ⨾ six j ⨾ seven j ⨾ eleven j ⨾ eight j ⨾ ten len size
     -- (a refusal leaves the room as it was and hands back no length)
     pub leaves : (out : List ℕ) → OnRefusal (writeVerdict h d y w M (length out)) (writtenAfter h d y w M out) out
     pub hands-back : (len : ℕ) → let verdict = writeVerdict h d y w M len in

@@ -30,6 +30,9 @@ fn file_place(bytes: &[u8], number: u8, i: usize) -> usize
     if number == 7 {
         return held.restraint_at;
     }
+    if number == 11 {
+        return held.restraint_at;
+    }
     if number == 8 {
         return held.readings_at + 4 * i;
     }

@@ -19,8 +19,8 @@ use Rattle.records.specs.declared.Head.{Head}
 use Rattle.records.specs.declared.Verdict.{Verdict}
 use Rattle.records.specs.declared.Verdict.the-variants.{Accepted, Refused}
 use Rattle.meaning.specs.Design.{objects, blocks, sized, listLength, balanced}
-use Rattle.meaning.specs.Analysis.{reading}
-use Rattle.meaning.specs.Refusals.{accepted, refused, test, _⨾_, offender, farReading, clean, restraint, inReach, readingLimit, sumLimit}
+use Rattle.meaning.specs.Analysis.{reading, members}
+use Rattle.meaning.specs.Refusals.{accepted, refused, test, _⨾_, offender, farReading, clean, inRestraint, standards, restraint, inReach, readingLimit, sumLimit}
 use Rattle.meaning.specs.Calls.{given, designVerdict, judgeVerdict, slices, contents, jobVerdict, readingsVerdict}
 use Rattle.laws.specs.Fits.{Fits}
 
@@ -233,15 +233,21 @@ measured h d y e =
 
 -- ---- whole jobs
 
--- what an accepted restraint is: some objects of the design, and a sum in its range
+-- what an accepted restraint is: at least two objects of the design, and a sum in its range
 pub record Restraint (h : Head) (w : ℕ) (M : ℤ) : Type 0 where
   pub set-some : 0 < w
   pub set-inside : w < 2 ^ objects h
   pub sum-most : natAbs M ≤ sumLimit
+  pub two : 2 ≤ members (objects h) w
 
--- an accepted restraint is such
-pub restrains : (h : Head) (w : ℕ) (M : ℤ) → restraint h w M ≡ accepted → Restraint h w M
-restrains h w M e =
+-- what passes 7: the same with any number of objects
+pub record InOrder (h : Head) (w : ℕ) (M : ℤ) : Type 0 where
+  pub set-some : 0 < w
+  pub set-inside : w < 2 ^ objects h
+  pub sum-most : natAbs M ≤ sumLimit
+
+pub in-order : (h : Head) (w : ℕ) (M : ℤ) → inRestraint h w M ≡ accepted → InOrder h w M
+in-order h w M e =
     let a = both (ltb 0 w && ltb w (2 ^ objects h)) (leb (natAbs M) sumLimit) (held _ _ _ e) in
     let b = both (ltb 0 w) (ltb w (2 ^ objects h)) (a .0) in
     record {
@@ -249,6 +255,13 @@ restrains h w M e =
       set-inside = ltb-true _ _ (b .1);
       sum-most = leb-true _ _ (a .1);
     }
+
+-- an accepted restraint is such
+pub restrains : (h : Head) (w : ℕ) (M : ℤ) → restraint h w M ≡ accepted → Restraint h w M
+restrains h w M e =
+    let o = opened (inRestraint h w M) (standards h w) e in
+    let r = in-order h w M (o .0) in
+    record { set-some = r .set-some; set-inside = r .set-inside; sum-most = r .sum-most; two = leb-true 2 _ (held _ _ _ (o .1)) }
 
 -- what an accepted job is
 pub record Job (h : Head) (d : List ℕ) (y : List ℤ) (w : ℕ) (M : ℤ) : Type 0 where

@@ -221,12 +221,16 @@ callRows =
     ∷ refuses (valuesVerdict three pair far 7 (pos 1000000001) 0) 7 0
     ∷ refuses (valuesVerdict three pair far 7 (negsuc 1000000000) 0) 7 0
     ∷ refuses (valuesVerdict three pair far 7 (pos 1000000000) 0) 8 1
+    ∷ refuses (valuesVerdict three pair far 4 (pos 1000000001) 0) 7 0
+    ∷ refuses (valuesVerdict three pair far 4 (pos 0) 0) 11 0
+    ∷ refuses (valuesVerdict four pair far4 1 (pos 0) 0) 6 0
     ∷ refuses (valuesVerdict three pair ys 7 (negsuc 999999999) 2) 10 0
-    ∷ refuses (valuesVerdict three pair ys 1 (pos 1000000000) 3) 0 0
+    ∷ refuses (valuesVerdict three pair ys 3 (pos 1000000000) 3) 0 0
     ∷ refuses (valueVerdict four (0 ∷ 0 ∷ []) far4 0 (pos 0) 4) 5 1
     ∷ refuses (valueVerdict four pair far4 0 (pos 0) 4) 5 4
     ∷ refuses (valueVerdict four pair far4 0 (pos 0) 3) 6 0
     ∷ refuses (valueVerdict three pair far 0 (pos 0) 2) 7 0
+    ∷ refuses (valueVerdict three pair far 1 (pos 0) 2) 11 0
     ∷ refuses (valueVerdict three pair far 7 (pos 0) 2) 8 1
     ∷ refuses (valueVerdict three pair ys 7 (pos 0) 2) 0 0
     ∷ refuses (deviationsVerdict four pair far4 0) 6 0
@@ -250,12 +254,12 @@ callRows =
     ∷ refuses (readingsVerdict three pair far) 8 1
     ∷ refuses (jobVerdict four pair far4 0 (pos 0)) 6 0
     ∷ refuses (jobVerdict three pair far 0 (pos 0)) 7 0
-    ∷ refuses (jobVerdict three pair far 4 (pos 0)) 8 1
-    ∷ refuses (analyseVerdict three pair far 4 (pos 0) 0 0 0) 8 1
-    ∷ refuses (analyseVerdict three pair ys 4 (pos 0) 5 3 3) 10 0
-    ∷ refuses (analyseVerdict three pair ys 4 (pos 0) 6 2 3) 10 0
-    ∷ refuses (analyseVerdict three pair ys 4 (pos 0) 6 3 2) 10 0
-    ∷ refuses (analyseVerdict three pair ys 4 (pos 0) 6 3 3) 0 0
+    ∷ refuses (jobVerdict three pair far 6 (pos 0)) 8 1
+    ∷ refuses (analyseVerdict three pair far 6 (pos 0) 0 0 0) 8 1
+    ∷ refuses (analyseVerdict three pair ys 6 (pos 0) 5 3 3) 10 0
+    ∷ refuses (analyseVerdict three pair ys 6 (pos 0) 6 2 3) 10 0
+    ∷ refuses (analyseVerdict three pair ys 6 (pos 0) 6 3 2) 10 0
+    ∷ refuses (analyseVerdict three pair ys 6 (pos 0) 6 3 3) 0 0
     ∷ []
 
 -- ---- what records and buffers hold after
@@ -434,6 +438,9 @@ fileRows =
     ∷ refuses (readVerdict (set fileC 11 3)) 6 0
     ∷ refuses (readVerdict (set (set fileA 24 0) 36 1)) 7 14
     ∷ refuses (readVerdict (set fileA 24 32)) 7 14
+    ∷ refuses (readVerdict (set fileA 24 1)) 11 14
+    ∷ refuses (readVerdict (set (set fileA 24 16) 40 127)) 11 14
+    ∷ refuses (readVerdict (set (set fileA 24 1) 25 1)) 7 14
     ∷ refuses (readVerdict (set fileA 17 128)) 7 14
     ∷ refuses (readVerdict (set fileA 25 128)) 7 14
     ∷ refuses (readVerdict (set fileA 29 64)) 7 14
@@ -562,6 +569,7 @@ writingRows =
     ∷ refuses (writeVerdict four (0 ∷ 0 ∷ []) ys4 0 (pos 0) 0) 5 1
     ∷ refuses (writeVerdict four pair far4 0 (pos 0) 0) 6 0
     ∷ refuses (writeVerdict three pair far 8 (pos 0) 0) 7 0
+    ∷ refuses (writeVerdict three pair far 2 (pos 0) 0) 11 0
     ∷ refuses (writeVerdict three pair far 7 (pos 0) 0) 8 1
     ∷ refuses (writeVerdict three pair ys 7 (negsuc 1) 45) 10 0
     ∷ refuses (writeVerdict three pair ys 7 (negsuc 1) 46) 0 0

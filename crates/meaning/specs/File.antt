@@ -1,6 +1,6 @@
 -- The job file, in the request's order. Assumes nothing.
 use Prim.Native.Nat.{ℕ, zero, suc, _+_, _-_, _*_, _^_}
-use mathlib.Core.Bool.{cond}
+use mathlib.Core.Bool.{cond, _||_}
 use mathlib.Core.List.{List, [], _∷_}
 use lib.ListN.{getD, take, drop, length}
 use lib.IntN.{ℤ, pos, _-ℤ_}
@@ -116,10 +116,10 @@ fields s =
     ⨾ fieldVerdict s (fourthAt s) 4 (bodyLength (headOf s) 4)
     ⨾ test (eqb (endAt s) (length s)) 9 (endAt s)
 
--- a direct call's refusal of what a file holds, moved to its place in the file: 5 to that byte, 7 to the field's start, 8 to the reading's first byte
+-- a direct call's refusal of what a file holds, moved to its place in the file: 5 to that byte, 7 and 11 to the field's start, 8 to the reading's first byte
 abbrev pub placed : List ℕ → Verdict → Verdict
 placed s Accepted = accepted
-placed s (Refused k i) = refused k (cond (eqb k 5) (blocksAt + i) (cond (eqb k 7) (thirdAt s) (cond (eqb k 8) (readingsAt s + 4 * i) i)))
+placed s (Refused k i) = refused k (cond (eqb k 5) (blocksAt + i) (cond (eqb k 7 || eqb k 11) (thirdAt s) (cond (eqb k 8) (readingsAt s + 4 * i) i)))
 
 -- the verdict of reading: the fields, then what they hold, looked at as a direct call does
 unfoldable pub readVerdict : List ℕ → Verdict

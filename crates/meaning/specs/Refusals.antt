@@ -11,7 +11,7 @@ use Rattle.records.specs.declared.Head.{Head}
 use Rattle.records.specs.declared.Verdict.{Verdict}
 use Rattle.records.specs.declared.Verdict.the-variants.{Accepted, Refused}
 use Rattle.meaning.specs.Design.{objects, withFixed, sized, occ, balanced}
-use Rattle.meaning.specs.Analysis.{reading}
+use Rattle.meaning.specs.Analysis.{reading, members}
 
 -- the two verdicts by name
 abbrev pub accepted : Verdict
@@ -85,8 +85,16 @@ abbrev pub inBalance : Head → List ℕ → Verdict
 inBalance h d = test (balanced h d) 6 0
 
 -- 7: the restraint set is not empty and has no bit at v or above, and M is in its range
+abbrev pub inRestraint : Head → ℕ → ℤ → Verdict
+inRestraint h w M = test (ltb 0 w && ltb w (2 ^ objects h) && leb (natAbs M) sumLimit) 7 0
+
+-- 11: one standard is too few
+abbrev pub standards : Head → ℕ → Verdict
+standards h w = test (leb 2 (members (objects h) w)) 11 0
+
+-- the tests of a restraint
 abbrev pub restraint : Head → ℕ → ℤ → Verdict
-restraint h w M = test (ltb 0 w && ltb w (2 ^ objects h) && leb (natAbs M) sumLimit) 7 0
+restraint h w M = inRestraint h w M ⨾ standards h w
 
 -- 8: no reading is out of range
 abbrev pub inReach : List ℤ → Verdict

@@ -74,6 +74,7 @@ reasons! {
     BadReading = 8,
     BytesFollow = 9,
     NoRoom = 10,
+    OneStandard = 11,
 }
 
 /// A refusal: its reason, and its place in the file, or, in a call that takes no file, the index in its slice or the number that was asked for, modulo 2^48.
@@ -310,7 +311,7 @@ pub fn judge(head: Head, blocks: &[u8]) -> Result<Parameters, Refusal> {
     Ok(parameters(answer))
 }
 
-// ---- jobs: a design with its readings in development order, a restraint set (bit i is object i) and its accepted sum
+// ---- jobs: a design with its readings in development order, a restraint set (bit i is object i, two objects at least) and its accepted sum
 
 /// The total of one object: the readings with it on the left less those with it on the right. Balance is not asked.
 ///
@@ -358,6 +359,7 @@ pub fn sum_of_squared_totals(head: Head, blocks: &[u8], readings: &[i32]) -> Res
 /// let a = Head { n: 5, flag: 0, p: 2, m: 1 };
 /// assert!(refusal(a, &[1, 4, 2, 3], &[11, -3, 4, 1, -8], 0b11, 7).is_ok());
 /// assert_eq!(refusal(a, &[1, 4, 2, 3], &[11, -3, 4, 1, -8], 0, 7).unwrap_err().reason, Reason::BadRestraint);
+/// assert_eq!(refusal(a, &[1, 4, 2, 3], &[11, -3, 4, 1, -8], 0b1, 7).unwrap_err().reason, Reason::OneStandard);
 /// ```
 pub fn refusal(head: Head, blocks: &[u8], readings: &[i32], set: u64, sum: i64) -> Result<(), Refusal> {
     let Head { n, flag, p, m } = head;

@@ -93,6 +93,35 @@ fn jobs_are_refused_or_not() {
 }
 
 #[test]
+fn one_standard_is_too_few() {
+    let (far, unbalanced) = ([0, 0, 0, 200_001, 0], [1, 4, 2, 0]);
+    for (set, number) in [(0, 7), (1, 11), (2, 11), (16, 11), (17, 0), (31, 0), (32, 7), (33, 7)] {
+        let wanted = refusal_in(number);
+        assert_eq!(refusal(A, &BLOCKS, &READINGS, set, SUM), wanted, "set {set}");
+        assert_eq!(values(A, &BLOCKS, &READINGS, set, SUM).map(|_| ()), wanted, "set {set}");
+        assert_eq!(value_of(A, &BLOCKS, &READINGS, set, SUM, 0).map(|_| ()), wanted, "set {set}");
+        assert_eq!(published(A, &BLOCKS, &READINGS, set, SUM).map(|_| ()), wanted, "set {set}");
+        assert_eq!(analyse(A, &BLOCKS, &READINGS, set, SUM).map(|_| ()), wanted, "set {set}");
+        assert_eq!(write(A, &BLOCKS, set, SUM, &READINGS).map(|_| ()), wanted, "set {set}");
+        // in a file at the third field's start
+        let mut file = example("A.job");
+        file[24] = set as u8;
+        let in_file = refusal_in(if number == 0 { 0 } else { number + (14 << 16) });
+        assert_eq!(read(&file).map(|_| ()), in_file, "set {set}");
+        assert_eq!(solve(&file).map(|_| ()), in_file, "set {set}");
+        assert_eq!(listing(&file).unwrap().starts_with(&format!("refused {number} 14\n")), number != 0, "set {set}");
+    }
+    // after 6 and 7, before 8
+    assert_eq!(refusal(A, &unbalanced, &READINGS, 1, SUM), refused(Reason::Unbalanced, 0));
+    assert_eq!(refusal(A, &BLOCKS, &READINGS, 1, 1_000_000_001), refused(Reason::BadRestraint, 0));
+    assert_eq!(refusal(A, &BLOCKS, &far, 1, SUM), refused(Reason::OneStandard, 0));
+    assert_eq!(write(A, &BLOCKS, 1, -1_000_000_001, &far), refused(Reason::BadRestraint, 0));
+    assert_eq!(write(A, &BLOCKS, 1, SUM, &far), refused(Reason::OneStandard, 0));
+    assert_eq!(value_of(A, &BLOCKS, &far, 1, SUM, 5), refused(Reason::BadObject, 5));
+    assert_eq!(value_of(A, &BLOCKS, &far, 1, SUM, 4), refused(Reason::OneStandard, 0));
+}
+
+#[test]
 fn values_are_worked_out() {
     assert_eq!(values(A, &BLOCKS, &READINGS, SET, SUM).unwrap(), [-3, 73, 19, 5, 51]);
     assert_eq!(values(A, &BLOCKS, &READINGS, 0, SUM), refused(Reason::BadRestraint, 0));
@@ -111,7 +140,7 @@ fn published_columns_add_up() {
     assert_eq!(published(three, &[0, 1], &[0; 3], 0b111, 1).unwrap(), [34, 33, 33]);
     assert_eq!(published(three, &[0, 1], &[0; 3], 0b111, -1).unwrap(), [-33, -33, -34]);
     // one object at a time gives the same, and each set of members adds to 100 times its accepted sum
-    for (set, sum) in (1..32).flat_map(|set| [7, 1, 0, -4].map(|sum| (set, sum))) {
+    for (set, sum) in (1..32u64).filter(|set| set.count_ones() > 1).flat_map(|set| [7, 1, 0, -4].map(|sum| (set, sum))) {
         let column = published(A, &BLOCKS, &READINGS, set, sum).unwrap();
         let alone: Vec<i64> = (0..5).map(|object| value_of(A, &BLOCKS, &READINGS, set, sum, object).unwrap().hundredths).collect();
         assert_eq!(column, alone, "set {set}, sum {sum}");
@@ -296,6 +325,8 @@ fn rooms_and_slots_of_jobs() {
     stays("sum_of_squared_totals", WORD, 8, 3, |answer| calls::sum_of_squared_totals(n, flag, p, m, b, &far, answer));
     stays("values", SIGNED, 7, 0, |values| calls::values(n, flag, p, m, b, &far, 0, SUM, values));
     stays("published", SIGNED, 7, 0, |hundredths| calls::published(n, flag, p, m, b, &far, 0, SUM, hundredths));
+    stays("values", SIGNED, 11, 0, |values| calls::values(n, flag, p, m, b, &far, 1, SUM, values));
+    stays("published", SIGNED, 11, 0, |hundredths| calls::published(n, flag, p, m, b, &far, 1, SUM, hundredths));
     stays("published", SIGNED, 8, 3, |hundredths| calls::published(n, flag, p, m, b, &far, SET, SUM, hundredths));
     stays("deviations", SIGNED, 8, 3, |deviations| calls::deviations(n, flag, p, m, b, &far, deviations));
     stays("q", WORD, 8, 3, |answer| calls::q(n, flag, p, m, b, &far, answer));

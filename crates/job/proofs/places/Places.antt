@@ -98,13 +98,17 @@ module _ (s : List ℕ) (k i : ℕ) where
   pub place-restraint : k ≡ 7 → thirdAt s ≡ place (placed s (refused k i))
   place-restraint e = rw e
 
+  -- 11 too
+  pub place-standards : k ≡ 11 → thirdAt s ≡ place (placed s (refused k i))
+  place-standards e = rw e
+
   -- 8 to the first byte of the reading
   pub place-reading : k ≡ 8 → readingsAt s + 4 * i ≡ place (placed s (refused k i))
   place-reading e = rw e
 
   -- any other stays
-  pub place-else : (k ≡ 5 → ⊥) → (k ≡ 7 → ⊥) → (k ≡ 8 → ⊥) → i ≡ place (placed s (refused k i))
-  place-else a b c = rw (ne-eqb k 5 a, ne-eqb k 7 b, ne-eqb k 8 c)
+  pub place-else : (k ≡ 5 → ⊥) → (k ≡ 7 → ⊥) → (k ≡ 11 → ⊥) → (k ≡ 8 → ⊥) → i ≡ place (placed s (refused k i))
+  place-else a b e c = rw (ne-eqb k 5 a, ne-eqb k 7 b, ne-eqb k 11 e, ne-eqb k 8 c)
 
 -- what is given under a verdict is given under the moved one
 pub given-placed : {A : Type 0} (s : List ℕ) (verdict : Verdict) (answer nothing : A) → given (placed s verdict) answer nothing ≡ given verdict answer nothing

@@ -8,7 +8,7 @@ use denote.Ref.{now}
 use Rattle.records.specs.declared.Held.{Held}
 use Rattle.meaning.specs.File.{blocksAt, thirdAt, readingsAt}
 use Rattle.fields.proofs.Bounds.{third-bound}
-use Rattle.job.proofs.places.Places.{place-byte, place-restraint, place-reading, place-else}
+use Rattle.job.proofs.places.Places.{place-byte, place-restraint, place-standards, place-reading, place-else}
 use Rattle.job.proofs.places.file_place.Statement.{statement}
 use Rattle.job.proofs.places.file_place.Tie as tie
 
@@ -46,29 +46,36 @@ returns-2 c =
     ∙ place-restraint (now (s .args .bytes)) (s .args .number)
     (s .args .i) (c .if2 .taken)
 
+returns-3 : tie.Need-returns-3
+returns-3 c =
+    let s = c .before .before .before .before .before in
+    ends (c .before .before .before)
+    ∙ place-standards (now (s .args .bytes)) (s .args .number)
+    (s .args .i) (c .if3 .taken)
+
 mul-result : tie.Need-mul-result
-mul-result c = omega (arith, c .before .before .before .before .before .pre)
+mul-result c = omega (arith, c .before .before .before .before .before .before .pre)
 
 add-result-2 : tie.Need-add-result-2
 add-result-2 c = omega (
   arith,
-  reads (c .before .before .before .before),
-  low (c .before .before .before .before),
-  c .before .before .before .before .before .before .pre,
+  reads (c .before .before .before .before .before),
+  low (c .before .before .before .before .before),
+  c .before .before .before .before .before .before .before .pre,
 )
-
-returns-3 : tie.Need-returns-3
-returns-3 c =
-    let s = c .before .before .before .before .before .before in
-    rw (reads (c .before .before .before .before))
-    (search (place-reading (now (s .args .bytes))
-    (s .args .number) (s .args .i) (c .before .if3 .taken)))
 
 returns-4 : tie.Need-returns-4
 returns-4 c =
-    let s = c .before .before .before .before .before in
+    let s = c .before .before .before .before .before .before .before in
+    rw (reads (c .before .before .before .before .before))
+    (search (place-reading (now (s .args .bytes))
+    (s .args .number) (s .args .i) (c .before .if4 .taken)))
+
+returns-5 : tie.Need-returns-5
+returns-5 c =
+    let s = c .before .before .before .before .before .before in
     place-else (now (s .args .bytes)) (s .args .number)
-    (s .args .i) (c .before .before .if1 .left) (c .before .if2 .left) (c .if3 .left)
+    (s .args .i) (c .before .before .before .if1 .left) (c .before .before .if2 .left) (c .before .if3 .left) (c .if4 .left)
 
 pub file-place-spec : {M : Type 1} → statement M
-file-place-spec = tie.close (tie.spec (λ c κs. search needs) add-result returns returns-2 mul-result add-result-2 returns-3 returns-4)
+file-place-spec = tie.close (tie.spec (λ c κs. search needs) add-result returns returns-2 returns-3 mul-result add-result-2 returns-4 returns-5)

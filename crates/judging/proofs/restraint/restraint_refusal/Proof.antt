@@ -8,7 +8,10 @@ use Rattle.algebra.proofs.Signs.{too-low, too-high, between}
 use Rattle.meaning.specs.Design.{objects}
 use Rattle.meaning.specs.Refusals.{sumLimit}
 use Rattle.design.proofs.Within.{within-sizes}
-use Rattle.judging.proofs.Restrained.{none-past, past-none, restrained-yes, restrained-no}
+use Rattle.judging.proofs.Restrained.{none-past, past-none, restrained-yes, one-standard, restrained-no}
+use Rattle.laws.proofs.Chains.{InOrder}
+use Rattle.meaning.specs.Analysis.{members}
+use Rattle.words.proofs.Members.{ones-members}
 use Rattle.judging.proofs.restraint.restraint_refusal.Statement.{statement}
 use Rattle.judging.proofs.restraint.restraint_refusal.Tie as tie
 
@@ -53,20 +56,37 @@ returns-4 c =
           (search (rw (toZ-ofZ (s .fits .sum)) at (c .if4 .taken))),
     )))
 
+-- past the tests of 7
+module _ (c : tie.Else4) where
+  abbrev asked : tie.Start
+  asked = c .before .before .before .before .before
+
+  orderly : InOrder (asked .args .head) (asked .args .set) (asked .args .sum)
+  orderly =
+      let read = toZ-ofZ (asked .fits .sum) in
+      let shifted : asked .args .set / 2 ^ objects (asked .args .head) ≡ 0 =
+      ap (λ (v : ℕ). asked .args .set / 2 ^ v) (sym (counted (c .before .before .before))) ∙ c .before .before .if2 .left in
+      record {
+        set-some = omega (arith, c .before .before .before .before .if1 .left);
+        set-inside = none-past (objects (asked .args .head)) (asked .args .set) shifted;
+        sum-most = between (asked .args .sum) (sumLimit - 1) (search (rw read at (c .before .if3 .left)))
+            (search (rw read at (c .if4 .left)));
+      }
+
+-- how many objects the set has
+standing : (c : tie.After-ones) → c .ones .result ≡ members (objects (asked (c .before) .args .head)) (asked (c .before) .args .set)
+standing c = let s = asked (c .before) in
+    c .ones .ensures ∙ ones-members _ _ (omega (arith, s .pre .objects-most)) (orderly (c .before) .set-inside)
+
 returns-5 : tie.Need-returns-5
-returns-5 c =
-    let s = c .before .before .before .before .before in
-    let read = toZ-ofZ (s .fits .sum) in
-    let shifted : s .args .set / 2 ^ objects (s .args .head) ≡ 0 =
-    ap (λ (v : ℕ). s .args .set / 2 ^ v) (sym (counted (c .before .before .before)))
-    ∙ c .before .before .if2 .left in
-    sym (restrained-yes (s .args .head) (s .args .set)
-    (s .args .sum) (record {
-      set-some = omega (arith, c .before .before .before .before .if1 .left);
-      set-inside = none-past (objects (s .args .head)) (s .args .set) shifted;
-      sum-most = between (s .args .sum) (sumLimit - 1) (search (rw read at (c .before .if3 .left)))
-          (search (rw read at (c .if4 .left)));
-    }))
+returns-5 c = let s = asked (c .before .before) in
+    sym (one-standard (s .args .head) (s .args .set) (s .args .sum) (orderly (c .before .before)) (omega (arith, standing (c .before), c .if5 .taken)))
+
+returns-6 : tie.Need-returns-6
+returns-6 c = let s = asked (c .before .before) in
+    sym (restrained-yes (s .args .head) (s .args .set) (s .args .sum) (orderly (c .before .before)) (omega (arith, standing (c .before), c .if5 .left)))
 
 pub restraint-refusal-spec : {M : Type 1} → statement M
-restraint-refusal-spec = tie.close (tie.spec returns (λ c κs. search needs) shr-if2 returns-2 (λ c. search needs) returns-3 returns-4 returns-5)
+restraint-refusal-spec =
+    tie.close
+    (tie.spec returns (λ c κs. search needs) shr-if2 returns-2 (λ c. search needs) returns-3 returns-4 (λ c κs. tt) returns-5 returns-6)

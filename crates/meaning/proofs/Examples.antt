@@ -22,6 +22,7 @@ use Rattle.meaning.specs.Analysis.{
   spreadHundredths,
   spreadHundredthsOf,
 }
+use Rattle.meaning.specs.Wide.{wide}
 use Rattle.meaning.specs.Publishing.{published}
 use Rattle.meaning.specs.Refusals.{offender, farReading}
 use Rattle.meaning.specs.Calls.{designVerdict, judgeVerdict, slices, contents}
@@ -83,5 +84,5 @@ table =
     ∷ []
 
 pub examples : every table ≡ true
-unfolding table sized occ plus left right company opposition balanced beta total members restrained numeratorOf denominatorOf along difference deviationOf squaredReadings squaredTotals qOf root spreadHundredths spreadHundredthsOf published offender farReading designVerdict judgeVerdict slices contents big numbersAt fieldVerdict fields readVerdict ascii digits each textOf sum sumℕ firstFrom
+unfolding table wide sized occ plus left right company opposition balanced beta total members restrained numeratorOf denominatorOf along difference deviationOf squaredReadings squaredTotals qOf root spreadHundredths spreadHundredthsOf published offender farReading designVerdict judgeVerdict slices contents big numbersAt fieldVerdict fields readVerdict ascii digits each textOf sum sumℕ firstFrom
 examples = refl

@@ -52,6 +52,7 @@ use Rattle.laws.proofs.Matrix.{difference-signs}
 use Rattle.laws.proofs.Solution.{members-most}
 use Rattle.laws.proofs.Analysis.{q-nonneg, vbeta-some}
 use Rattle.meaning.specs.Refusals.{readingLimit, sumLimit}
+use Rattle.laws.specs.Fits.{Fits}
 use Rattle.laws.specs.Limits.{totalLimit, squaresLimit, qLimit, numeratorLimit}
 use Rattle.laws.proofs.Rounding.{Nearest, nearest-is, signed-size, spread-largest}
 
@@ -83,6 +84,15 @@ module _ (h : Head) (d : List ℕ) (s : Sound h d) (e : balanced h d ≡ true) w
       omega (arith, mul-le-mul t vbeta-most)
 
 -- ---- sums
+
+-- the sum of the squared readings, of blocks or not
+pub reading-squares-most : (h : Head) (y : List ℤ) → Fits h → Readings h y → natAbs (squaredReadings h y) ≤ squaresLimit
+unfolding squaredReadings
+reading-squares-most h y s r = omega (
+  arith,
+  abs-sum (blocks h) (readingLimit * readingLimit) (λ k. sq (reading y k)) (λ k l. abs-square (reading y k) readingLimit (r .readings-most k l)),
+  s .blocks-most,
+)
 
 module _ (h : Head) (d : List ℕ) (s : Sound h d) where
   -- a sign is at most 1
@@ -130,12 +140,7 @@ module _ (h : Head) (d : List ℕ) (s : Sound h d) where
 
     -- the sum of the squared readings
     pub squared-readings-most : natAbs (squaredReadings h y) ≤ squaresLimit
-    unfolding squaredReadings
-    squared-readings-most = omega (
-      arith,
-      abs-sum (blocks h) (readingLimit * readingLimit) (λ k. sq (reading y k)) (λ k l. abs-square (reading y k) readingLimit (r .readings-most k l)),
-      s .sizes .blocks-most,
-    )
+    squared-readings-most = reading-squares-most h y (s .sizes) r
 
     -- the sum of the squared totals
     pub squared-totals-most : natAbs (squaredTotals h d y) ≤ 50 * (totalLimit * totalLimit)

@@ -112,9 +112,9 @@ pub fn times(x: Wide, c: u64) -> Wide
 {
     let low = product(x.low, c);
     let high = product(x.high, c);
-    let carried = sum(high.low, low.high);
+    let top = sum(high.low, low.high);
     Wide {
-        high: carried.low,
+        high: top.low,
         low: low.low,
     }
 }

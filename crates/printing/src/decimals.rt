@@ -60,6 +60,6 @@ fn put_wide_digits(out: &mut [u8], at: usize, x: Wide) -> usize
 pub fn put_wide(out: &mut [u8], at: usize, x: Wide) -> usize
     ensures { λ r. ⌜ Wrote (now (out .entry)) at (wideText x) (now (out .exit)) r ⌝ }
 {
-    let next = put_byte(out, at, 32);
-    put_wide_digits(out, next, x)
+    let first = put_byte(out, at, 32);
+    put_wide_digits(out, first, x)
 }

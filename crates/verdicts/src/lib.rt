@@ -81,10 +81,8 @@ pub fn no_total(verdict: Verdict) -> ObjectTotal
 pub fn no_sum(verdict: Verdict) -> SquareSum
     ensures { λ r. ⌜ r ≡ squareSum verdict 0 ⌝ }
 {
-    SquareSum {
-        verdict,
-        sum: Wide { high: 0, low: 0 },
-    }
+    let sum = Wide { high: 0, low: 0 };
+    SquareSum { verdict, sum }
 }
 
 // What a refused value hands back.

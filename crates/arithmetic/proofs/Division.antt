@@ -65,7 +65,8 @@ module _ (x : Wide) (d : ℕ) (f : x .low < 2 ^ 64) (some : 0 < d) where
   -- the quotient
   pub quotient-is : value x / d ≡ x .high / d * 2 ^ 64 + (first x d / d * 2 ^ 32 + second x d / d)
   quotient-is =
-      let a : (upper * 2 ^ 32 + x .low % 2 ^ 32) / d ≡ upper / d * 2 ^ 32 + (upper % d * 2 ^ 32 + x .low % 2 ^ 32) / d = quotient-parts (2 ^ 32) upper (x .low % 2 ^ 32) d some in
+      let a : (upper * 2 ^ 32 + x .low % 2 ^ 32) / d ≡ upper / d * 2 ^ 32 + (upper % d * 2 ^ 32 + x .low % 2 ^ 32) / d =
+      quotient-parts (2 ^ 32) upper (x .low % 2 ^ 32) d some in
       let b : upper / d ≡ x .high / d * 2 ^ 32 + first x d / d = quotient-parts (2 ^ 32) (x .high) (x .low / 2 ^ 32) d some in
       let c : upper % d ≡ first x d % d = rest-parts (2 ^ 32) (x .high) (x .low / 2 ^ 32) d some in
       rw (whole, a, b, c) (omega arith)
@@ -79,12 +80,14 @@ module _ (x : Wide) (d : ℕ) (f : x .low < 2 ^ 64) (some : 0 < d) where
 
 -- inside the range
 pub division : (x : Wide) (d : ℕ) → x .high < 2 ^ 64 → x .low < 2 ^ 64 → 0 < d → d < 2 ^ 32
-    → _≡_ {A = Divided} (record { quotient = record { high = x .high / d; low = first x d / d * 2 ^ 32 + second x d / d }; rest = second x d % d }) (divided (value x) d)
+    → _≡_ {A = Divided} (record { quotient = record { high = x .high / d; low = first x d / d * 2 ^ 32 + second x d / d }; rest = second x d % d })
+    (divided (value x) d)
 unfolding divided
 division x d f g some most =
     let t : (ltb 0 d && ltb d (2 ^ 32)) ≡ true = and-both (lt-ltb _ _ some) (lt-ltb _ _ most) in
     let h : x .high / d < 2 ^ 64 = lt-of-le-of-lt (div-le-self (x .high) d) f in
-    let q = words (value x / d) (x .high / d) (x .high / d) (first x d / d * 2 ^ 32 + second x d / d) (sym (mod-eq-of-lt h)) (omega (arith, first-half x d g some, second-half x d g some)) (quotient-is x d g some) in
+    let q = words (value x / d) (x .high / d) (x .high / d) (first x d / d * 2 ^ 32 + second x d / d) (sym (mod-eq-of-lt h))
+    (omega (arith, first-half x d g some, second-half x d g some)) (quotient-is x d g some) in
     rw t (λ j. record { quotient = q j; rest = sym (rest-is x d g some) j })
 
 -- outside

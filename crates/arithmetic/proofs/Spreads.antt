@@ -1,7 +1,7 @@
 -- The range as facts, and the hundredths inside it: the root of 10,000·Q by v·beta·f. Assumes nothing.
 use mathlib.Core.Path.{_≡_, refl, ap, _∙_}
 use mathlib.Core.Bool.{Bool, true, false, cond, _&&_}
-use Prim.Native.Nat.{ℕ, zero, suc, _+_, _*_, _/_, _^_, _≤_, _<_}
+use Prim.Native.Nat.{ℕ, zero, suc, _*_, _/_, _^_, _≤_, _<_}
 use native.Mathlib.Nat.{mul-le-mul, mul-pos, div-le-self, lt-of-le-of-lt, lt-of-not-le, lt-trans}
 use native.Mathlib.Decide.{decLe}
 use native.Mathlib.Omega.{arith}

@@ -1,7 +1,20 @@
 -- Numbers of two words: what a number's words are, and back; a product by halves of 32 bits. Assumes nothing.
 use mathlib.Core.Path.{_≡_, sym, ap, _∙_}
 use Prim.Native.Nat.{ℕ, _+_, _*_, _-_, _/_, _%_, _^_, _≤_, _<_}
-use native.Mathlib.Nat.{div-lt-iff-lt-mul, div-add-mod', mod-eq-of-lt, mod-lt, mod-add-mod, add-mod-mod, add-mul-div-right, add-mul-mod-self-right, mul-le-mul, mul-le-mul-right, lt-of-not-le, lt-trans}
+use native.Mathlib.Nat.{
+  div-lt-iff-lt-mul,
+  div-add-mod',
+  mod-eq-of-lt,
+  mod-lt,
+  mod-add-mod,
+  add-mod-mod,
+  add-mul-div-right,
+  add-mul-mod-self-right,
+  mul-le-mul,
+  mul-le-mul-right,
+  lt-of-not-le,
+  lt-trans,
+}
 use native.Mathlib.Omega.{arith}
 use native.Mathlib.Decide.{decLe}
 use borrow.Author.Tests.{le-leb, lt-leb}
@@ -72,7 +85,8 @@ pub wide-add : (n m : ℕ) → wide (value (wide n) + m) ≡ wide (n + m)
 unfolding wide
 wide-add n m =
     let k = n / 2 ^ 64 / 2 ^ 64 in
-    sym (ap wide (moved (n / 2 ^ 64 % 2 ^ 64 * 2 ^ 64 + n % 2 ^ 64) (k * 2 ^ 64 * 2 ^ 64) n m (above (2 ^ 64) n)) ∙ above-lost (n / 2 ^ 64 % 2 ^ 64 * 2 ^ 64 + n % 2 ^ 64 + m) k)
+    sym (ap wide (moved (n / 2 ^ 64 % 2 ^ 64 * 2 ^ 64 + n % 2 ^ 64) (k * 2 ^ 64 * 2 ^ 64) n m (above (2 ^ 64) n))
+    ∙ above-lost (n / 2 ^ 64 % 2 ^ 64 * 2 ^ 64 + n % 2 ^ 64 + m) k)
   where
     moved : (v k n m : ℕ) → n ≡ v + k → n + m ≡ v + m + k
     moved v k n m e = omega arith

@@ -10,6 +10,7 @@ ghost use Rattle.arithmetic.specs.Division.{divided};
 
 // The largest word, and one more than the largest half of a word.
 const LAST_WORD: u64 = 18446744073709551615;
+
 const HALF: u64 = 4294967296;
 
 // A quotient and what is left.

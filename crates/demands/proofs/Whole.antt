@@ -1,5 +1,5 @@
 -- The two words of each sum of squares and of Q are the number itself: none reaches 2 to the power 128. Assumes nothing.
-use mathlib.Core.Path.{_≡_, sym, refl, ap, _∙_, subst}
+use mathlib.Core.Path.{_≡_, sym, refl, subst}
 use mathlib.Core.List.{List}
 use Prim.Native.Nat.{ℕ, _^_, _<_}
 use native.Mathlib.Omega.{arith}
@@ -37,10 +37,13 @@ module _ (h : Head) (d : List ℕ) (y : List ℤ) where
       let a = opened _ _ e in
       let b = opened _ _ (a .0) in
       let long : length y ≡ blocks h = eqb-true _ _ (held _ _ _ (b .1)) in
-      omega (arith, reading-squares-most h y (fits h (held _ _ _ (b .0))) (record {
-        readings-long = long;
-        readings-most = λ k l. readings-near y (a .1) k (subst (λ (x : ℕ). k < x) (sym long) l);
-      }))
+      omega (
+        arith,
+        reading-squares-most h y (fits h (held _ _ _ (b .0))) (record {
+          readings-long = long;
+          readings-most = λ k l. readings-near y (a .1) k (subst (λ (x : ℕ). k < x) (sym long) l);
+        }),
+      )
 
   pub squared-readings-whole : squaredReadingsVerdict h y ≡ accepted → value (squaredReadingsAnswer h y .sum) ≡ natAbs (squaredReadings h y)
   squared-readings-whole e = whole (squaredReadingsVerdict h y) _ e (readings-fit e)

@@ -2,21 +2,18 @@
 -- readings. Assumes nothing.
 use Rattle.laws.specs.Limits.{totalLimit}
 use borrow.Author.Needs.{needs}
-use mathlib.Core.Path.{_≡_, refl, sym, ap, ap₂, _∙_}
-use mathlib.Core.List.{List}
+use mathlib.Core.Path.{_≡_, refl, ap, _∙_}
 use Prim.Native.Nat.{ℕ, _+_, _-_, _*_, _≤_, _<_}
 use native.Mathlib.Omega.{arith}
 use denote.Ref.{now}
 use lib.Dec.{lit<}
 use lib.IntN.{ℤ, pos, natAbs}
 use lib.ListN.{getD, length, length-set}
-use mir.Syntax.{w32, w64}
-use mir.Val.{SFits, toZ}
+use mir.Syntax.{w32}
+use mir.Val.{SFits}
 use Rattle.algebra.specs.Buffers.{over}
 use Rattle.algebra.proofs.Filling.{over-none, over-step, over-end}
-use Rattle.algebra.proofs.Numbers.{Num, called, unsigned, widened, widened-fits, small-fits, minus, minus-fits, times, times-fits, cast-fits}
-use Rattle.algebra.proofs.Order.{sq-nonneg}
-use Rattle.algebra.proofs.Sums.{sumℕ-none}
+use Rattle.algebra.proofs.Numbers.{Num, called, unsigned, widened, widened-fits, small-fits, minus, minus-fits, times, times-fits}
 use Rattle.meaning.specs.Analysis.{reading}
 use Rattle.meaning.specs.Wide.{wide}
 use Rattle.weighing.proofs.SquareSums.{squares-none, squares-more}
@@ -94,7 +91,8 @@ loop-again c =
 returns : tie.Need-returns Inv-loop μ-loop
 returns c =
     let end : c .before .loop .k ≡ c .before .before .before .args .b = omega arith in
-    (c .before .loop .inv .1 ∙ ap (λ (n : ℕ). wide (squaresIn (now (c .before .before .before .args .readings)) n)) end, over-end _ _ (c .before .loop .inv .2) end)
+    let ys = now (c .before .before .before .args .readings) in
+    (c .before .loop .inv .1 ∙ ap (λ (n : ℕ). wide (squaresIn ys n)) end, over-end _ _ (c .before .loop .inv .2) end)
 
 pub fill-deviations-spec : {M : Type 1} → statement M
 fill-deviations-spec =

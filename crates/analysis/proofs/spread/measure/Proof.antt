@@ -27,7 +27,8 @@ module _ (c : tie.After-subtract) where
   -- no product leaves its words, so their difference is Q
   q-is : c .subtract .result ≡ wide (start .args .vbeta * value (start .args .readings) - value (start .args .totals))
   q-is = c .subtract .ensures
-      ∙ ap (λ (n : ℕ). wide (n - value (start .args .totals))) (exact all fits (c .before .times .ensures) ∙ mul-comm (value (start .args .readings)) (start .args .vbeta))
+      ∙ ap (λ (n : ℕ). wide (n - value (start .args .totals)))
+      (exact all fits (c .before .times .ensures) ∙ mul-comm (value (start .args .readings)) (start .args .vbeta))
 
 -- v
 counted : (c : tie.After-objects) → c .objects .result ≡ objects (start (c .before .before) .args .head)

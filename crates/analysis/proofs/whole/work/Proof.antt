@@ -62,7 +62,8 @@ module _ (c : tie.After-weigh) where
   ranged = totalled _ _ _ _ _ stands filled
 
 -- so do the squared readings
-squares-fit : (c : tie.After-weigh) (r : Wide) → r ≡ wide (squaresIn (ys c) (blocks (start c .args .head))) → value r ≡ squaresIn (ys c) (blocks (start c .args .head))
+squares-fit : (c : tie.After-weigh) (r : Wide) → r ≡ wide (squaresIn (ys c) (blocks (start c .args .head))) →
+    value r ≡ squaresIn (ys c) (blocks (start c .args .head))
 squares-fit c r e = exact (squaresIn (ys c) (blocks (start c .args .head))) (omega (arith, measures c .readings-most)) e
 
 abbrev objects-start : tie.After-objects → tie.Start
@@ -93,8 +94,8 @@ fill-deviations-requires c κs =
 measure-requires : tie.Need-measure-requires
 measure-requires c κs =
     let w = c .before .before .before .before .before .before .before .before .before .before .before .before .before in
-    subst₂ (λ (R T : ℕ). Measured (start w .args .head) (scaleIn (start w .args .parameters)) R T) (sym (squares-fit w _ (c .before .fill-deviations .ensures .0)))
-    (sym (squared w)) (start w .pre .0 .measured)
+    subst₂ (λ (R T : ℕ). Measured (start w .args .head) (scaleIn (start w .args .parameters)) R T)
+    (sym (squares-fit w _ (c .before .fill-deviations .ensures .0))) (sym (squared w)) (start w .pre .0 .measured)
 
 returns : tie.Need-returns
 returns c =
@@ -103,8 +104,8 @@ returns c =
     let v = counted (c .before .before .before .before .before .before .before .before .before .before .before .before) in
     let a = start w .args in
     let spread = c .measure .ensures
-    ∙ (λ j. spreadingFrom (wide (scaleIn (a .parameters) * squares-fit w _ (c .before .before .fill-deviations .ensures .0) j - squared w j)) (scaleIn (a .parameters))
-    (freedom (a .head))) in (
+    ∙ (λ j. spreadingFrom (wide (scaleIn (a .parameters) * squares-fit w _ (c .before .before .fill-deviations .ensures .0) j - squared w j))
+    (scaleIn (a .parameters)) (freedom (a .head))) in (
       (λ j. record {
         verdict = accepted;
         parameters = a .parameters;

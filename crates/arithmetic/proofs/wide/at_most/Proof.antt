@@ -9,10 +9,14 @@ use Rattle.arithmetic.proofs.wide.at_most.Statement.{statement}
 use Rattle.arithmetic.proofs.wide.at_most.Tie as tie
 
 returns : tie.Need-returns
-returns c = let a = c .before .before .before .args in sym (le-leb (value (a .x)) (value (a .y)) (le-of-lt (high-decides (a .x) (a .y) (omega arith) (omega arith))))
+returns c =
+    let a = c .before .before .before .args in
+    sym (le-leb (value (a .x)) (value (a .y)) (le-of-lt (high-decides (a .x) (a .y) (omega arith) (omega arith))))
 
 returns-2 : tie.Need-returns-2
-returns-2 c = let a = c .before .before .before .before .before .before .args in sym (lt-leb (value (a .x)) (value (a .y)) (high-decides (a .y) (a .x) (omega arith) (omega arith)))
+returns-2 c =
+    let a = c .before .before .before .before .before .before .args in
+    sym (lt-leb (value (a .x)) (value (a .y)) (high-decides (a .y) (a .x) (omega arith) (omega arith)))
 
 returns-3 : tie.Need-returns-3
 returns-3 c =

@@ -28,7 +28,9 @@ mul-t10 : tie.Need-mul-t10
 mul-t10 c = let a = c .before .before .before .before .before .before .args in omega (arith, first-half (a .x) (a .d) (omega arith) (omega arith))
 
 add-t12 : tie.Need-add-t12
-add-t12 c = let a = c .before .before .before .before .before .before .args in omega (arith, first-half (a .x) (a .d) (omega arith) (omega arith), second-half (a .x) (a .d) (omega arith) (omega arith))
+add-t12 c =
+    let a = c .before .before .before .before .before .before .args in
+    omega (arith, first-half (a .x) (a .d) (omega arith) (omega arith), second-half (a .x) (a .d) (omega arith) (omega arith))
 
 returns-3 : tie.Need-returns-3
 returns-3 c = let a = c .before .before .before .before .before .before .args in division (a .x) (a .d) (omega arith) (omega arith) (omega arith) (omega arith)

@@ -25,7 +25,9 @@ module _ (c : tie.Then2) where
   start = c .before .before .before .before .before
 
   enough : start .args .y .high ≤ start .args .x .high
-  enough = no-fewer (2 ^ 64) (start .args .x .high) (start .args .y .high) (start .args .x .low) (start .args .y .low) (less (c .before .before .before)) (omega arith)
+  enough =
+      no-fewer (2 ^ 64) (start .args .x .high) (start .args .y .high) (start .args .x .low) (start .args .y .low) (less (c .before .before .before))
+      (omega arith)
 
 -- and fewer of them, where it has more in its low word
 module _ (c : tie.Else2) where
@@ -33,7 +35,9 @@ module _ (c : tie.Else2) where
   start-2 = c .before .before .before .before .before
 
   fewer : start-2 .args .y .high < start-2 .args .x .high
-  fewer = strictly (2 ^ 64) (start-2 .args .x .high) (start-2 .args .y .high) (start-2 .args .x .low) (start-2 .args .y .low) (less (c .before .before .before)) (omega arith)
+  fewer =
+      strictly (2 ^ 64) (start-2 .args .x .high) (start-2 .args .y .high) (start-2 .args .x .low) (start-2 .args .y .low) (less (c .before .before .before))
+      (omega arith)
 
 sub-t6 : tie.Need-sub-t6
 sub-t6 c = enough (c .before .before)

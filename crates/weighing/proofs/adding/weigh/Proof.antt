@@ -20,7 +20,7 @@ use Rattle.weighing.proofs.SquareSums.{squares}
 use Rattle.verdicts.proofs.Sums.{square-refused, square-accepted}
 use Rattle.weighing.specs.Verdicts.{weighVerdict}
 use Rattle.weighing.specs.Developed.{totalIn, squaredTotalsIn}
-use Rattle.weighing.proofs.Developing.{filled-most, filled-squares}
+use Rattle.weighing.proofs.Developing.{filled-squares}
 use Rattle.weighing.proofs.Refusing.{Weighable, weighable}
 use Rattle.weighing.proofs.adding.weigh.Statement.{statement}
 use Rattle.weighing.proofs.adding.weigh.Tie as tie

@@ -1,13 +1,13 @@
 -- `squared_readings`: `sum` is the words of the squares of the first k readings. Assumes nothing.
 use borrow.Author.Needs.{needs}
 use mathlib.Core.Path.{_≡_, ap, _∙_}
-use Prim.Native.Nat.{ℕ, _+_, _-_, _≤_}
+use Prim.Native.Nat.{_-_, _≤_}
 use native.Mathlib.Omega.{arith}
 use lib.IntN.{ℤ, pos, natAbs}
 use lib.ListN.{getD}
 use mir.Syntax.{w32}
 use mir.Val.{SFits}
-use Rattle.algebra.proofs.Numbers.{Num, widened, widened-fits}
+use Rattle.algebra.proofs.Numbers.{widened, widened-fits}
 use Rattle.meaning.specs.Wide.{wide}
 use Rattle.weighing.proofs.SquareSums.{squares, squares-none, squares-more}
 use Rattle.weighing.proofs.squares.squared_readings.Statement.{statement}
@@ -31,7 +31,8 @@ loop-again : tie.Need-loop-again Inv-loop μ-loop
 loop-again c =
     let t = c .before .before .before .before in
     let e = element (c .before .before) in
-    let sized : c .before .size .result ≡ natAbs e = c .before .size .ensures ∙ ap natAbs (widened e (natAbs e) (fits (c .before .before)) (omega arith) .reads) in
+    let reads = widened e (natAbs e) (fits (c .before .before)) (omega arith) .reads in
+    let sized : c .before .size .result ≡ natAbs e = c .before .size .ensures ∙ ap natAbs reads in
     (omega arith, squares-more (t .before .args .readings .now) (t .loop .k) (t .loop .inv .1) sized (c .add-square .ensures))
 
 pub squared-readings-spec : {M : Type 1} → statement M

@@ -11,7 +11,7 @@ use Rattle.meaning.specs.Design.{sized, blocks}
 use Rattle.meaning.specs.Refusals.{accepted, refused, inReach}
 use Rattle.meaning.specs.Wide.{wide}
 use Rattle.meaning.specs.Calls.{squaredReadingsVerdict}
-use Rattle.laws.proofs.Chains.{fits, readings-near}
+use Rattle.laws.proofs.Chains.{fits}
 use Rattle.verdicts.proofs.Told.{accepting}
 use Rattle.weighing.proofs.SquareSums.{readings-squares}
 use Rattle.verdicts.proofs.Sums.{square-refused, square-accepted}

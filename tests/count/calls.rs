@@ -218,7 +218,7 @@ fn squares(numbers: &[i128]) -> Left {
 /// A number in two words, the high one first.
 fn wide(number: i128) -> Vec<u64> {
     let word = 1i128 << 64;
-    assert!((0..word * word / 4).contains(&number), "a figure of the count outgrew two words");
+    assert!(number >= 0, "a sum of squares below 0");
     vec![(number / word) as u64, (number % word) as u64]
 }
 

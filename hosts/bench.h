@@ -35,7 +35,7 @@
  * Development, tables, totals and sums of squares need no balance: no 6. Deviations, Q and spread take no restraint: no 7, no 11.
  *
  * Sizes: n from 3 to 50; flag 0 to 3; v at most 50; p at least 1, 2p at most v; m from 1 to 64; b = m*n at most 1,300; readings within
- * +-200,000; the accepted sum within +-1,000,000,000.
+ * +-200,000,000; the accepted sum within +-1,000,000,000,000.
  * Flag: with 1 and 3 the fixed object takes part and v is n + 1, with 0 and 2 v is n. With 0 and 1 a shift is added modulo n; with 2 and 3
  * by the addition of the field of n elements, and n is one of 8, 9, 16, 25, 27, 32, 49: elements are base-q digits packed into a number, q
  * the prime, the lowest digit first, and each two digits are added modulo q.
@@ -79,23 +79,25 @@ enum {
 /* `answer` of bench_analyse and bench_solve, after the six above; `real`[0] is the spread, 0.0 where there is none. */
 enum {
     BENCH_DENOMINATOR = 6, /* of every value */
-    BENCH_Q = 7,           /* v*beta times the sum of squared deviations */
-    BENCH_VBETA = 8,       /* v*beta, the denominator of every deviation */
-    BENCH_FREEDOM = 9,     /* degrees of freedom */
-    BENCH_HUNDREDTHS = 10, /* the spread in whole hundredths of a count */
-    BENCH_HAS_SPREAD = 11, /* 1 where there is a spread, 0 where there is no degree of freedom */
-    BENCH_SOLVE_SLOTS = 12,
+    BENCH_Q_HIGH = 7,      /* Q, v*beta times the sum of squared deviations, is 2^64 times this */
+    BENCH_Q_LOW = 8,       /* and this */
+    BENCH_VBETA = 9,       /* v*beta, the denominator of every deviation */
+    BENCH_FREEDOM = 10,    /* degrees of freedom */
+    BENCH_HUNDREDTHS = 11, /* the spread in whole hundredths of a count */
+    BENCH_HAS_SPREAD = 12, /* 1 where there is a spread, 0 where there is no degree of freedom */
+    BENCH_SOLVE_SLOTS = 13,
     BENCH_SOLVE_REAL_SLOTS = 1
 };
 
-/* `answer` of bench_spread: the last five of those; `real`[0] is the spread. */
+/* `answer` of bench_spread: the last six of those; `real`[0] is the spread. */
 enum {
-    BENCH_SPREAD_Q = 0,
-    BENCH_SPREAD_VBETA = 1,
-    BENCH_SPREAD_FREEDOM = 2,
-    BENCH_SPREAD_HUNDREDTHS = 3,
-    BENCH_SPREAD_HAS_SPREAD = 4,
-    BENCH_SPREAD_SLOTS = 5,
+    BENCH_SPREAD_Q_HIGH = 0,
+    BENCH_SPREAD_Q_LOW = 1,
+    BENCH_SPREAD_VBETA = 2,
+    BENCH_SPREAD_FREEDOM = 3,
+    BENCH_SPREAD_HUNDREDTHS = 4,
+    BENCH_SPREAD_HAS_SPREAD = 5,
+    BENCH_SPREAD_SLOTS = 6,
     BENCH_SPREAD_REAL_SLOTS = 1
 };
 
@@ -110,7 +112,8 @@ enum {
     BENCH_VALUE_REAL_SLOTS = 1
 };
 
-/* bench_deviation_of: `signed_slots`, then `answer`. bench_total: `signed_slots`. The sums of squares and bench_q: `answer`. */
+/* bench_deviation_of: `signed_slots`, then `answer`. bench_total: `signed_slots`. The sums of squares and bench_q: `answer`,
+ * a number of two words: 2^64 times the high one, and the low one. */
 enum {
     BENCH_DEVIATION_NUMERATOR = 0,
     BENCH_DEVIATION_SIGNED_SLOTS = 1,
@@ -118,8 +121,9 @@ enum {
     BENCH_DEVIATION_SLOTS = 1,
     BENCH_TOTAL = 0,
     BENCH_TOTAL_SIGNED_SLOTS = 1,
-    BENCH_SUM = 0,
-    BENCH_SUM_SLOTS = 1
+    BENCH_SUM_HIGH = 0,
+    BENCH_SUM_LOW = 1,
+    BENCH_SUM_SLOTS = 2
 };
 
 /* bench_field_at: `answer`. bench_read: `signed_slots`, then `answer`. bench_write and bench_listing: `answer`. */

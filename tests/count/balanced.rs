@@ -4,7 +4,7 @@
 //! is balanced is decided by the count all the same; the selftest demands it of those that should be.
 
 use crate::field::{Field, SIZES};
-use crate::job::INFINITY;
+use crate::job::{INFINITY, READING_LIMIT};
 use crate::papers::{self, Printed};
 use crate::seed::Seed;
 
@@ -198,6 +198,39 @@ const FORTY_NINE: &str = "0 7 1 8 2 9 3 4 | 14 15 16 10 17 5 12 19";
 pub fn longest() -> Design {
     let (p, objects) = papers::objects(25, TWENTY_FIVE);
     Design { kind: "longest", n: 25, flag: 1, p, objects: objects.repeat(26) }
+}
+
+/// The job with the largest Q: the longest, its readings at both ends of their range so that every total is 0.
+pub fn largest_q() -> (Design, Vec<i32>) {
+    let design = longest();
+    let half = design.m() * usize::from(design.n) / 2;
+    let limit = READING_LIMIT as i32;
+    (design, [vec![limit; half], vec![-limit; half]].concat())
+}
+
+/// Two jobs, with the last Q below 2 to the power 64 that they can have and the first above it.
+pub fn around_a_word() -> [(Design, Vec<i32>); 2] {
+    let last = i128::from(u64::MAX) / 108;
+    [with_q(last), with_q(last + 1)]
+}
+
+/// A job whose Q is 108 times a number: three objects opposed twelve times over, one reading for all shifts of an initial block, so that every total is 0.
+/// Each reading takes the largest square that is left of the number.
+fn with_q(number: i128) -> (Design, Vec<i32>) {
+    let design = all_pairs(3, 0, 12);
+    let (mut rest, mut readings) = (number, Vec::new());
+    for _ in 0..design.m() {
+        let mut size = 0;
+        for step in (0..28).rev().map(|power| 1i128 << power) {
+            if size + step <= READING_LIMIT && (size + step) * (size + step) <= rest {
+                size += step;
+            }
+        }
+        rest -= size * size;
+        readings.extend([size as i32; 3]);
+    }
+    assert_eq!(rest, 0, "the squares do not reach the number");
+    (design, readings)
 }
 
 pub fn forty_nine() -> Design {

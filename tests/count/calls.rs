@@ -145,10 +145,10 @@ const CALLS: &[Call] = &[
         let results = &asked.solved().results;
         vec![whole(&[results.deviations[asked.number]]), whole(&[results.deviation_denominator])]
     }),
-    call!(bench_q(head blocks readings; answer), [DESIGN, READINGS, BALANCE], |asked| vec![whole(&[asked.solved().results.q])]),
+    call!(bench_q(head blocks readings; answer), [DESIGN, READINGS, BALANCE], |asked| vec![front(wide(asked.solved().results.q))]),
     call!(bench_spread(head blocks readings; answer real), [DESIGN, READINGS, BALANCE], |asked| {
         let results = &asked.solved().results;
-        vec![whole(&spread(results)), real(results.spread.unwrap_or(0), 100)]
+        vec![front(spread(results)), real(results.spread.unwrap_or(0), 100)]
     }),
     call!(
         bench_analyse(head blocks readings restraint; words values deviations answer real),
@@ -217,7 +217,14 @@ fn totals(asked: &Asked) -> Vec<i128> {
 }
 
 fn squares(numbers: &[i128]) -> Left {
-    whole(&[numbers.iter().map(|number| number * number).sum()])
+    front(wide(numbers.iter().map(|number| number * number).sum()))
+}
+
+/// A number in two words, the high one first.
+fn wide(number: i128) -> Vec<u64> {
+    let word = 1i128 << 64;
+    assert!(number >= 0, "a sum of squares below 0");
+    vec![(number / word) as u64, (number % word) as u64]
 }
 
 fn parameters(head: &Head, blocks: &[Block], balance: &Balance) -> [i128; 6] {
@@ -225,13 +232,14 @@ fn parameters(head: &Head, blocks: &[Block], balance: &Balance) -> [i128; 6] {
     [sizes[0], sizes[1], balance.appearances, sizes[2], balance.company, balance.opposition]
 }
 
-fn spread(results: &Results) -> [i128; 5] {
-    [results.q, results.deviation_denominator, results.freedom, results.spread.unwrap_or(0), results.spread.is_some().into()]
+fn spread(results: &Results) -> Vec<u64> {
+    let rest = [results.deviation_denominator, results.freedom, results.spread.unwrap_or(0), results.spread.is_some().into()];
+    [wide(results.q), whole(&rest).entries].concat()
 }
 
 fn everything(Solved { job, results }: &Solved) -> Vec<Left> {
-    let answer = [&parameters(&job.head, &job.blocks, &job.balance)[..], &[results.denominator], &spread(results)].concat();
-    vec![front(words(&job.blocks)), whole(&results.numerators), whole(&results.deviations), whole(&answer), real(results.spread.unwrap_or(0), 100)]
+    let answer = [whole(&parameters(&job.head, &job.blocks, &job.balance)).entries, whole(&[results.denominator]).entries, spread(results)].concat();
+    vec![front(words(&job.blocks)), whole(&results.numerators), whole(&results.deviations), front(answer), real(results.spread.unwrap_or(0), 100)]
 }
 
 fn text(bytes: Vec<u8>) -> Vec<Left> {

@@ -1,8 +1,12 @@
 //! Seeded jobs, whole ones and damaged ones. The same seed and index always give the same bytes.
 
-use crate::balanced::{design, Design};
-use crate::job::{Draft, INFINITY};
+use crate::balanced::{around_a_word, design, largest_q, Design};
+use crate::job::{Draft, INFINITY, READING_LIMIT, SUM_LIMIT};
 use crate::seed::Seed;
+
+/// The widest reading and the widest accepted sum as a file has them.
+const LIMIT: i32 = READING_LIMIT as i32;
+const SUM: i64 = SUM_LIMIT as i64;
 
 /// A job to be tried, with a few words on what it is.
 pub struct Trial {
@@ -92,9 +96,17 @@ fn borders(draft: &Draft) -> [usize; 5] {
     [0, 7, restraint, restraint + 19, restraint + 19 + 3 + 4 * draft.readings.len()]
 }
 
-/// A whole job over some design, which may yet be unbalanced.
+/// A whole job over some design, which may yet be unbalanced; now and then one with the largest Q, or with a Q around 2 to the power 64.
 fn whole(seed: &mut Seed) -> (Design, Draft) {
-    let design = design(seed);
+    let (design, readings) = match seed.below(60) {
+        0 => largest_q(),
+        1 | 2 => around_a_word()[seed.below(2)].clone(),
+        _ => {
+            let design = design(seed);
+            let readings = readings(&design, seed);
+            (design, readings)
+        }
+    };
     let v = u32::from(design.v());
     let every = u64::MAX >> (64 - v);
     let restraint = match seed.below(5) {
@@ -106,8 +118,8 @@ fn whole(seed: &mut Seed) -> (Design, Draft) {
     };
     let sum = match seed.below(5) {
         0 => 0,
-        1 => seed.pick(&[1_000_000_000, -1_000_000_000]),
-        2 => seed.between(-1_000_000_000, 1_000_000_000),
+        1 => seed.pick(&[SUM, -SUM]),
+        2 => seed.between(-SUM, SUM),
         _ => seed.between(-50, 50),
     };
     let draft = Draft {
@@ -117,7 +129,7 @@ fn whole(seed: &mut Seed) -> (Design, Draft) {
         m: design.m() as u8,
         restraint: if restraint == 0 { 3 } else { restraint },
         sum,
-        readings: readings(&design, seed),
+        readings,
         objects: design.objects.clone(),
     };
     (design, draft)
@@ -129,9 +141,9 @@ fn readings(design: &Design, seed: &mut Seed) -> Vec<i32> {
     let drawn = |seed: &mut Seed, low: i64, high: i64| (0..count).map(|_| seed.between(low, high) as i32).collect();
     match seed.below(8) {
         0 => vec![0; count],
-        1 => drawn(seed, -200_000, 200_000),
-        2 => (0..count).map(|_| seed.pick(&[200_000, -200_000])).collect(),
-        3 => vec![seed.pick(&[200_000, -200_000, 1, -1]); count],
+        1 => drawn(seed, (-LIMIT).into(), LIMIT.into()),
+        2 => (0..count).map(|_| seed.pick(&[LIMIT, -LIMIT])).collect(),
+        3 => vec![seed.pick(&[LIMIT, -LIMIT, 1, -1]); count],
         4 => drawn(seed, -1, 1),
         5 => exact_readings(design, seed, 0),
         6 => exact_readings(design, seed, 3),
@@ -255,7 +267,7 @@ fn one_standard(draft: &mut Draft, seed: &mut Seed) {
 
 fn sum(draft: &mut Draft, seed: &mut Seed) {
     draft.sum =
-        seed.pick(&[1_000_000_000, -1_000_000_000, 1_000_000_001, -1_000_000_001, i64::MIN, i64::MAX, i64::MIN + 1, 1 << 32, -(1 << 32)]);
+        seed.pick(&[SUM, -SUM, SUM + 1, -SUM - 1, i64::MIN, i64::MAX, i64::MIN + 1, 1 << 40, -(1 << 40)]);
 }
 
 fn reading(draft: &mut Draft, seed: &mut Seed) {
@@ -265,7 +277,7 @@ fn reading(draft: &mut Draft, seed: &mut Seed) {
             1 => draft.readings.len() - 1,
             _ => seed.below(draft.readings.len()),
         };
-        draft.readings[place] = seed.pick(&[200_000, -200_000, 200_001, -200_001, 200_001, -200_001, i32::MIN, i32::MAX]);
+        draft.readings[place] = seed.pick(&[LIMIT, -LIMIT, LIMIT + 1, -LIMIT - 1, LIMIT + 1, -LIMIT - 1, i32::MIN, i32::MAX]);
     }
 }
 

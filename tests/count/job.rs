@@ -8,8 +8,8 @@ use std::collections::BTreeSet;
 pub const INFINITY: u8 = 255;
 
 /// The widest reading and the widest accepted sum.
-pub const READING_LIMIT: i128 = 200_000;
-pub const SUM_LIMIT: i128 = 1_000_000_000;
+pub const READING_LIMIT: i128 = 200_000_000;
+pub const SUM_LIMIT: i128 = 1_000_000_000_000;
 
 /// Number and place, as the listing prints them.
 #[derive(Clone, Copy, PartialEq, Eq, Debug)]

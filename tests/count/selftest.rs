@@ -5,7 +5,7 @@ use crate::compare;
 use crate::damage;
 use crate::design::{develop, pairs};
 use crate::field::{Field, SIZES};
-use crate::job::{self, Head, Job};
+use crate::job::{self, Head, Job, READING_LIMIT};
 use crate::listing::listing;
 use crate::papers::{self, LISTS, TABLE_1, TABLE_2_TOTALS};
 use crate::publishing::{features, published, Feature};
@@ -81,8 +81,8 @@ fn examples(figures: &mut Figures) {
     figures.same("G: 4 arises three times within sides", company[0][4], 3);
     figures.same("G: 2 arises once within sides", company[0][2], 1);
     figures.same("J", line(&listing(&bytes_of("J")), "design"), "design 8 28 21 3 6 9".to_string());
-    figures.same("K, 200,000", line(&listing(&bytes_of("K-reading-200000")), "design"), "design 5 5 4 2 1 2".to_string());
-    figures.same("K, 200,001", listing(&bytes_of("K-reading-200001")), "refused 8 48\n".to_string());
+    figures.same("K, 200,000,000", line(&listing(&bytes_of("K-reading-200000000")), "design"), "design 5 5 4 2 1 2".to_string());
+    figures.same("K, 200,000,001", listing(&bytes_of("K-reading-200000001")), "refused 8 48\n".to_string());
     figures.same("K, n 50 alone", listing(&[1, 0, 4, 50, 0, 25, 26]), "refused 1 7\n".to_string());
     figures.same("K, n 50", listing(&bytes_of("K-n50-flag0")), "refused 6 0\n".to_string());
     figures.same("K, n 50 and the fixed object", listing(&bytes_of("K-n50-flag1")), "refused 4 0\n".to_string());
@@ -182,9 +182,12 @@ fn rounding(figures: &mut Figures) {
     figures.same("a spread of 0", line(&listing(&bytes_of("end-spread-0")), "spread"), "spread 0 5 6 0".to_string());
     let longest = bytes_of("end-longest");
     figures.same("the longest file", longest.len(), 6584);
-    let last = line(&listing(&longest), "spread");
-    let q: i128 = last.split(' ').nth(1).expect("Q").parse().expect("a number");
-    figures.same("10,000 Q beyond 64 bits", 10_000 * q > i128::from(u64::MAX), true);
+    let q = |name: &str| -> i128 { line(&listing(&bytes_of(name)), "spread").split(' ').nth(1).expect("Q").parse().expect("a number") };
+    figures.same("the largest Q", q("end-largest-q"), 70_304_000_000_000_000_000_000);
+    figures.same("the largest Q is v beta b times the square of the widest reading", q("end-largest-q"), 1352 * 1300 * READING_LIMIT * READING_LIMIT);
+    let word = i128::from(u64::MAX) + 1;
+    figures.same("a Q just below a word more", (word - 108..word).contains(&q("end-q-below-a-word")), true);
+    figures.same("a Q just above a word more", (word..word + 108).contains(&q("end-q-above-a-word")), true);
 }
 
 /// Columns worked out by hand: the values as fractions, the members, the accepted sum, the hundredths.

@@ -2,7 +2,7 @@
 
 use crate::balanced::{self, Design};
 use crate::field::SIZES;
-use crate::job::Draft;
+use crate::job::{Draft, READING_LIMIT, SUM_LIMIT};
 use crate::listing::listing;
 use crate::papers::{self, Printed, LISTS};
 use crate::seed::Seed;
@@ -10,6 +10,10 @@ use std::collections::BTreeMap;
 use std::fmt::Write;
 use std::fs;
 use std::path::Path;
+
+/// The widest reading and the widest accepted sum as a file has them.
+const LIMIT: i32 = READING_LIMIT as i32;
+const SUM: i64 = SUM_LIMIT as i64;
 
 /// An example: its file's name, what it shows, its bytes.
 pub struct Example {
@@ -73,8 +77,8 @@ pub fn examples() -> Vec<Example> {
         draft.readings[3] = reading;
         draft.file()
     };
-    all.push(example("K-reading-200000", "the largest reading is taken", with_reading(200_000)));
-    all.push(example("K-reading-200001", "a larger one is refused at its first byte", with_reading(200_001)));
+    all.push(example("K-reading-200000000", "the largest reading is taken", with_reading(200_000_000)));
+    all.push(example("K-reading-200000001", "a larger one is refused at its first byte", with_reading(200_000_001)));
     all.push(example("K-n50-flag0", "n 50 without the fixed object keeps the sizes: this file is refused for its balance only", differences_once_50().file()));
     all.push(example("K-n50-flag1", "n 50 with the fixed object breaks them", Draft { flag: 1, ..differences_once_50() }.file()));
     all.push(example("K-empty", "no bytes at all", Vec::new()));
@@ -119,7 +123,7 @@ fn small(number: u64) -> Readings {
 fn extreme(number: u64) -> Readings {
     Box::new(move |count| {
         let mut seed = Seed::new(1965, number);
-        (0..count).map(|_| seed.pick(&[200_000, -200_000])).collect()
+        (0..count).map(|_| seed.pick(&[LIMIT, -LIMIT])).collect()
     })
 }
 
@@ -155,8 +159,8 @@ fn at_the_ends() -> Vec<Example> {
     let largest_prime = balanced::over_prime(47, 1, 24, &mut prime).expect("a design of 47 residues");
     let fixed = Design { objects: balanced::squares(19).objects.repeat(64), ..balanced::squares(19) };
     let mut all = vec![
-        example("end-longest", "6,584 bytes, 1,300 blocks, readings at their limits", over(&longest, (1 << 26) - 1, 1_000_000_000, extreme(1)).file()),
-        example("end-objects-50", "50 objects, 1,225 blocks", over(&all_pairs(49, 1, 1), 1 << 49 | 1, -1_000_000_000, extreme(2)).file()),
+        example("end-longest", "6,584 bytes, 1,300 blocks, readings at their limits", over(&longest, (1 << 26) - 1, SUM, extreme(1)).file()),
+        example("end-objects-50", "50 objects, 1,225 blocks", over(&all_pairs(49, 1, 1), 1 << 49 | 1, -SUM, extreme(2)).file()),
         example("end-objects-49", "49 objects, eight a side, 1,029 blocks", over(&balanced::forty_nine(), 7, 12_345, small(3)).file()),
         example("end-objects-48", "48 objects, 24 a side", over(&largest_prime, 1 << 47 | 2, 77, small(4)).file()),
         example("end-blocks-64", "64 initial blocks, ten a side", over(&fixed, 1 << 19 | 1 << 5, -3, extreme(5)).file()),
@@ -164,8 +168,15 @@ fn at_the_ends() -> Vec<Example> {
         example("end-even", "36 objects, the half difference once", over(&all_pairs(36, 0, 1), 1 << 35 | 1, 1, small(7)).file()),
         example("end-no-spread", "four objects, no degree of freedom", over(&balanced::squares(3), 9, 5, small(8)).file()),
         example("end-spread-0", "readings all 0: a spread of 0 is not none", over(&all_pairs(5, 0, 1), 3, 1, Box::new(|count| vec![0; count])).file()),
-        example("end-lowest", "all readings at the lowest", over(&all_pairs(9, 1, 3), 1 << 9 | 1, -1_000_000_000, Box::new(|count| vec![-200_000; count])).file()),
+        example("end-lowest", "all readings at the lowest", over(&all_pairs(9, 1, 3), 1 << 9 | 1, -SUM, Box::new(|count| vec![-LIMIT; count])).file()),
     ];
+    for (name, shows, (design, readings)) in [
+        ("end-largest-q", "the largest Q: every total is 0", balanced::largest_q()),
+        ("end-q-below-a-word", "a Q just below 2 to the power 64", balanced::around_a_word()[0].clone()),
+        ("end-q-above-a-word", "a Q just above 2 to the power 64", balanced::around_a_word()[1].clone()),
+    ] {
+        all.push(example(name, shows, over(&design, 5, SUM, Box::new(move |_| readings.clone())).file()));
+    }
     let changed = |places: &[(usize, u8)]| {
         let mut bytes = A.to_vec();
         places.iter().for_each(|(place, byte)| bytes[*place] = *byte);
@@ -202,7 +213,7 @@ fn at_the_ends() -> Vec<Example> {
         example("refused-7", "a restraint with an object too many, and a reading out of range", changed(&[(24, 32), (36, 127)])),
         example("refused-7-sum", "a sum out of its range", changed(&[(25, 128)])),
         example("refused-7-standard", "one standard, and a sum out of its range", changed(&[(24, 1), (25, 128)])),
-        example("refused-8", "two readings out of range", changed(&[(45, 255), (49, 4)])),
+        example("refused-8", "two readings out of range", changed(&[(44, 16), (48, 16)])),
         example("refused-9", "more bytes than are read, and an object twice", [&changed(&[(12, 4)])[..], &[0; 9000]].concat()),
         example("refused-11", "one standard", changed(&[(24, 16)])),
         example("refused-11-reading", "one standard, and a reading out of range", changed(&[(24, 1), (36, 127)])),

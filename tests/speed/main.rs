@@ -29,7 +29,7 @@ impl Job {
         for _ in 0..head.m * n {
             seed = seed.wrapping_mul(1664525).wrapping_add(1013904223);
             // of both signs, over their whole range
-            file.extend(((seed >> 8) as i32 % 400_001 - 200_000).to_be_bytes());
+            file.extend(((seed >> 2) as i32 % 400_000_001 - 200_000_000).to_be_bytes());
         }
         Job { head, blocks, file }
     }
@@ -127,15 +127,15 @@ fn rooms() -> Rooms {
     Rooms { words: vec![0; mass_bench::WORDS], values: vec![0; mass_bench::VALUES], deviations: vec![0; mass_bench::DEVIATIONS] }
 }
 
-fn solve_proved(job: &Job, rooms: &mut Rooms) -> Option<(u64, u64)> {
+fn solve_proved(job: &Job, rooms: &mut Rooms) -> Option<(u128, u64)> {
     let Rooms { words, values, deviations } = rooms;
-    let (mut answer, mut real) = ([0; 12], [0.0]);
+    let (mut answer, mut real) = ([0; 13], [0.0]);
     let returned = mass_bench::calls::solve(black_box(&job.file), words, values, deviations, &mut answer, &mut real);
     // Q and the hundredths of the spread, as in hosts/bench.h
-    (returned == 0).then_some((answer[7], answer[10]))
+    (returned == 0).then_some((u128::from(answer[7]) << 64 | u128::from(answer[8]), answer[11]))
 }
 
-fn solve_plain(job: &Job, rooms: &mut Rooms) -> Option<(u64, u64)> {
+fn solve_plain(job: &Job, rooms: &mut Rooms) -> Option<(u128, u64)> {
     let Rooms { words, values, deviations } = rooms;
     plain::solve(black_box(&job.file), words, values, deviations).ok().map(|s| (s.q, s.hundredths))
 }

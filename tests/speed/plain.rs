@@ -187,7 +187,7 @@ pub fn judge(h: Head, blocks: &[u8]) -> Result<Parameters, Refusal> {
 pub struct Solved {
     pub parameters: Parameters,
     pub denominator: u64,
-    pub q: u64,
+    pub q: u128,
     pub vbeta: u64,
     pub freedom: u64,
     pub hundredths: u64,
@@ -244,28 +244,18 @@ fn over(totals: &[i64], set: u64) -> i64 {
     objects(set).map(|i| totals[i]).sum()
 }
 
-fn root(x: u64) -> u64 {
-    let (mut low, mut high) = (0, 1 << 30);
-    while low + 1 < high {
-        let middle = (low + high) / 2;
-        if middle * middle <= x {
+/// The largest whole number whose square is at most x, by halving.
+fn root(x: u128) -> u64 {
+    let (mut low, mut high) = (0, u64::MAX);
+    while low < high {
+        let middle = high - (high - low) / 2;
+        if u128::from(middle) * u128::from(middle) <= x {
             low = middle;
         } else {
-            high = middle;
+            high = middle - 1;
         }
     }
     low
-}
-
-/// The largest k with k·k·d at most 10,000·q.
-fn largest(q: u64, d: u64) -> u64 {
-    let a = root(q / d);
-    let rest = 10000 * (q - a * a * d);
-    let mut e = 0;
-    while e < 99 && (200 * a + e + 1) * (e + 1) * d <= rest {
-        e += 1;
-    }
-    100 * a + e
 }
 
 /// Works a job file out into lent rooms.
@@ -280,13 +270,13 @@ pub fn solve(bytes: &[u8], words: &mut [u64], values: &mut [i64], deviations: &m
     let mut developed = [0; 2600];
     develop(head, &bytes[10..third], &mut developed).map_err(|(k, at)| (k, if k == 5 { 10 + at } else { at }))?;
     let parameters = judge_words(head, &developed)?;
-    if set == 0 || set >> v != 0 || sum.unsigned_abs() > 1_000_000_000 {
+    if set == 0 || set >> v != 0 || sum.unsigned_abs() > 1_000_000_000_000 {
         return Err((7, third));
     }
     if set.count_ones() == 1 {
         return Err((11, third));
     }
-    if let Some(k) = readings.iter().position(|y| y.unsigned_abs() > 200_000) {
+    if let Some(k) = readings.iter().position(|y| y.unsigned_abs() > 200_000_000) {
         return Err((8, third + 22 + 4 * k));
     }
     if words.len() < 2 * b || values.len() < v || deviations.len() < b {
@@ -310,11 +300,12 @@ pub fn solve(bytes: &[u8], words: &mut [u64], values: &mut [i64], deviations: &m
         let fitted = over(totals, words[2 * k]) - over(totals, words[2 * k + 1]);
         deviations[k] = vbeta as i64 * readings[k] as i64 - fitted;
     }
-    let squared_readings: u64 = readings.iter().map(|&y| (y as i64 * y as i64) as u64).sum();
-    let squared_totals: u64 = totals.iter().map(|&t| (t * t) as u64).sum();
-    let q = vbeta * squared_readings - squared_totals;
+    let square = |x: i64| u128::from(x.unsigned_abs()) * u128::from(x.unsigned_abs());
+    let squared_readings: u128 = readings.iter().map(|&y| square(y.into())).sum();
+    let squared_totals: u128 = totals.iter().map(|&t| square(t)).sum();
+    let q = u128::from(vbeta) * squared_readings - squared_totals;
     let freedom = (b + 1 - v) as u64;
-    let hundredths = if freedom == 0 { 0 } else { largest(q, vbeta * freedom) };
+    let hundredths = if freedom == 0 { 0 } else { root(10_000 * q / u128::from(vbeta * freedom)) };
     let spread = if freedom == 0 { None } else { Some(hundredths as f64 / 100.0) };
     Ok(Solved { parameters, denominator: members * vbeta, q, vbeta, freedom, hundredths, spread })
 }

@@ -1,10 +1,12 @@
 -- What an accepted job gives to the calls below it, and what is worked out from its totals: the definitions' own values, deviations and spread.
 -- Assumes nothing.
+use Rattle.laws.specs.Limits.{squaresLimit}
+use Rattle.arithmetic.proofs.Words.{exact}
+use Rattle.meaning.specs.Wide.{value, wide}
 use mathlib.Core.Path.{_≡_, refl, sym, ap, ap₂, _∙_, subst, subst₂}
 use mathlib.Core.Bool.{true}
 use mathlib.Core.List.{List}
 use Prim.Native.Nat.{ℕ, _+_, _-_, _*_, _^_, _≤_, _<_}
-use native.Mathlib.Nat.{mul-le-mul}
 use native.Mathlib.Omega.{arith}
 use borrow.Author.Tests.{le-leb}
 use lib.Dec.{leb}
@@ -34,6 +36,7 @@ use Rattle.meaning.specs.Analysis.{
   squaredTotals,
   qOf,
   freedom,
+  spreadHundredths,
   spreadHundredthsOf,
 }
 use Rattle.meaning.specs.Publishing.{spreadOf}
@@ -45,7 +48,7 @@ use Rattle.laws.proofs.Counting.{Numbers, parameters}
 use Rattle.laws.proofs.Matrix.{difference-signs}
 use Rattle.laws.proofs.Analysis.{vbeta-some, q-nonneg}
 use Rattle.laws.proofs.Sizes.{vbeta-most, squared-readings-most, q-most}
-use Rattle.arithmetic.specs.Hundredths.{spreadingFrom}
+use Rattle.arithmetic.specs.Hundredths.{spreadingFrom, hundredthsFrom}
 use Rattle.arithmetic.proofs.Spreads.{Ranged, hundredths-is}
 use Rattle.weighing.proofs.SquareSums.{readings-squares}
 use Rattle.weighing.specs.Developed.{totalIn}
@@ -121,7 +124,7 @@ module _ (h : Head) (d : List ℕ) (s : Sound h d) (b : balanced h d ≡ true) (
       (own-size (squaredTotals h d y) _ (sum-squares (objects h) (total h d y))))
 
   -- the spread that is made from it
-  spreading-of : Readings h y → spreadingFrom (qOf h d y) (vbeta h d) (freedom h) ≡ spreadingOf h d y
+  spreading-of : Readings h y → spreadingFrom (wide (qOf h d y)) (vbeta h d) (freedom h) ≡ spreadingOf h d y
   unfolding spreadHundredthsOf
   spreading-of r =
       let range : Ranged (qOf h d y) (vbeta h d) (freedom h) = record {
@@ -130,13 +133,10 @@ module _ (h : Head) (d : List ℕ) (s : Sound h d) (b : balanced h d ≡ true) (
         vbeta-most = vbeta-most h d s b;
         freedom-most = omega (arith, s .sizes .blocks-most, s .sizes .n-least);
       } in
-      λ j. record {
-        q = qOf h d y;
-        vbeta = vbeta h d;
-        freedom = freedom h;
-        hundredths = hundredths-is (qOf h d y) (vbeta h d) (freedom h) range j;
-        spread = spreadOf (hundredths-is (qOf h d y) (vbeta h d) (freedom h) range j) (freedom h);
-      }
+      let same : value (wide (qOf h d y)) ≡ qOf h d y = exact (qOf h d y) (omega (arith, q-most h d s y r b)) refl in
+      let k : hundredthsFrom (value (wide (qOf h d y))) (vbeta h d) (freedom h) ≡ spreadHundredths (qOf h d y) (vbeta h d) (freedom h) =
+      ap (λ (n : ℕ). hundredthsFrom n (vbeta h d) (freedom h)) same ∙ hundredths-is (qOf h d y) (vbeta h d) (freedom h) range in
+      λ j. record { q = wide (qOf h d y); vbeta = vbeta h d; freedom = freedom h; hundredths = k j; spread = spreadOf (k j) (freedom h) }
 
   module _ (r : Readings h y) (vb readings totals : ℕ) (f : vb ≡ vbeta h d) (m : readings ≡ natAbs (squaredReadings h y))
       (g : totals ≡ natAbs (squaredTotals h d y)) where
@@ -144,15 +144,17 @@ module _ (h : Head) (d : List ℕ) (s : Sound h d) (b : balanced h d ≡ true) (
     measured : Measured h vb readings totals
     measured = record {
       sizes = s .sizes;
+      vbeta-most = subst (λ (v : ℕ). v ≤ 2600) (sym f) (vbeta-most h d s b);
+      readings-most = subst (λ (R : ℕ). R ≤ squaresLimit) (sym m) (squared-readings-most h d s y r);
       q-some = subst₂ (λ (t R : ℕ). t ≤ vb * R) (sym g) (sym m)
           (subst (λ (v : ℕ). natAbs (squaredTotals h d y) ≤ v * natAbs (squaredReadings h y)) (sym f) (q-is .0));
-      q-most = subst₂ (λ (v R : ℕ). v * R ≤ 135200000000000000) (sym f) (sym m) (mul-le-mul (vbeta-most h d s b) (squared-readings-most h d s y r));
       freedom-some = omega (arith, parameters h d s b .enough);
     }
 
     -- is the job's own spread
-    spreading-is : spreadingFrom (vb * readings - totals) vb (freedom h) ≡ spreadingOf h d y
-    spreading-is = (λ j. spreadingFrom (f j * m j - g j) (f j) (freedom h)) ∙ ap (λ (Q : ℕ). spreadingFrom Q (vbeta h d) (freedom h)) (q-is .1) ∙ spreading-of r
+    spreading-is : spreadingFrom (wide (vb * readings - totals)) vb (freedom h) ≡ spreadingOf h d y
+    spreading-is = (λ j. spreadingFrom (wide (f j * m j - g j)) (f j) (freedom h))
+        ∙ ap (λ (Q : ℕ). spreadingFrom (wide Q) (vbeta h d) (freedom h)) (q-is .1) ∙ spreading-of r
 
 -- ---- an accepted job, worked out
 

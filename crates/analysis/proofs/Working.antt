@@ -76,7 +76,7 @@ module _ (f : ℕ → ℤ) where
 
 module _ (totals : List ℤ) (w : ℕ) (r : Held totals w) where
   -- each object adds at most a total; so over a part of the word
-  pub part-small : (rest : ℕ) → ((i : ℕ) → member rest i ≡ 1 → member w i ≡ 1) → natAbs (overSet rest (totalAt totals)) ≤ 16640000000
+  pub part-small : (rest : ℕ) → ((i : ℕ) → member rest i ≡ 1 → member w i ≡ 1) → natAbs (overSet rest (totalAt totals)) ≤ 64 * totalLimit
   unfolding restrained
   part-small rest part = omega (arith, abs-sum 64 totalLimit (λ i. pos (member rest i) *ℤ totalAt totals i) (λ i l. by i (ℕ-discrete (member rest i) 1)))
     where
@@ -88,7 +88,7 @@ module _ (totals : List ℤ) (w : ℕ) (r : Held totals w) where
           (sym (ap (λ (b : ℕ). pos b *ℤ totalAt totals i) none ∙ ring₁ (λ t. # 0 ⊗ t ≐ # 0) (totalAt totals i) refl)) (omega arith)
 
   -- over all of it
-  pub set-small : natAbs (overSet w (totalAt totals)) ≤ 16640000000
+  pub set-small : natAbs (overSet w (totalAt totals)) ≤ 64 * totalLimit
   set-small = part-small w (λ i e. e)
 
 -- the walk: rest is what is left of the word w, and so far the total of every object that is not
@@ -117,11 +117,11 @@ module _ (w : ℕ) (totals : List ℤ) where
     }
 
   -- what was added is the difference of two sums
-  pub so-far-small : (rest : ℕ) (so-far : ℤ) → Held totals w → SetWalk w totals rest so-far → natAbs so-far ≤ 33280000000
+  pub so-far-small : (rest : ℕ) (so-far : ℤ) → Held totals w → SetWalk w totals rest so-far → natAbs so-far ≤ 128 * totalLimit
   so-far-small rest so-far r k =
       let taken : so-far ≡ overSet w (totalAt totals) -ℤ overSet rest (totalAt totals) =
       comb₁ (pos 1) (k .sums) (ring₃ (λ s a b. s ⊝ (b ⊝ a) ≐ # 1 ⊗ (s ⊕ a ⊝ b)) so-far (overSet rest (totalAt totals)) (overSet w (totalAt totals)) refl) in
-      subst (λ (z : ℤ). natAbs z ≤ 33280000000) (sym taken)
+      subst (λ (z : ℤ). natAbs z ≤ 128 * totalLimit) (sym taken)
       (omega (
         arith,
         abs-sub (overSet w (totalAt totals)) (overSet rest (totalAt totals)),
@@ -142,7 +142,7 @@ set-agrees f g v w l h e = set-within f v w l h ∙ sum-cong v _ _ (λ i m. ap (
 
 -- each side of a block is at most that of 64 totals
 pub fitted-small : (words : List ℕ) (totals : List ℤ) (k : ℕ) → Held totals (getD words (2 * k) 0) → Held totals (getD words (2 * k + 1) 0) →
-    natAbs (fittedIn words (totalAt totals) k) ≤ 33280000000
+    natAbs (fittedIn words (totalAt totals) k) ≤ 128 * totalLimit
 fitted-small words totals k a b =
     le-trans (abs-sub (overSet (getD words (2 * k) 0) (totalAt totals)) (overSet (getD words (2 * k + 1) 0) (totalAt totals)))
     (omega (arith, set-small totals (getD words (2 * k) 0) a, set-small totals (getD words (2 * k + 1) 0) b))

@@ -11,11 +11,12 @@ use Rattle.records.specs.declared.Parameters.{Parameters}
 use Rattle.records.specs.declared.Solved.{Solved}
 use Rattle.meaning.specs.Design.{objects, blocks}
 use Rattle.meaning.specs.Analysis.{reading, members, restrained, numerator, denominator, freedom, member}
+use Rattle.meaning.specs.Wide.{wide}
 use Rattle.meaning.specs.Refusals.{accepted, sumLimit}
 use Rattle.laws.specs.Fits.{Fits}
 use Rattle.arithmetic.specs.Hundredths.{spreadingFrom}
 use Rattle.weighing.specs.Verdicts.{weighVerdict}
-use Rattle.laws.specs.Limits.{totalLimit}
+use Rattle.laws.specs.Limits.{totalLimit, squaresLimit}
 use Rattle.weighing.specs.Developed.{totalIn, squaredTotalsIn}
 
 -- the total that stands at place i
@@ -54,8 +55,9 @@ deviationIn words y T vb k = pos vb *ℤ reading y k -ℤ fittedIn words T k
 -- v·beta, its squared readings and its squared totals: Q is not below 0, nor is f
 pub record Measured (h : Head) (vb readings totals : ℕ) : Type 0 where
   pub sizes : Fits h
+  pub vbeta-most : vb ≤ 2600
+  pub readings-most : readings ≤ squaresLimit
   pub q-some : totals ≤ vb * readings
-  pub q-most : vb * readings ≤ 135200000000000000
   pub freedom-some : objects h ≤ blocks h + 1
 
 -- v·beta, from the parameters of a design
@@ -77,7 +79,7 @@ workedOut h y w p words = record {
   verdict = accepted;
   parameters = p;
   denominator = denominator (members (objects h) w) (scaleIn p);
-  spreading = spreadingFrom (scaleIn p * squaresIn y (blocks h) - squaredTotalsIn words y (blocks h) (objects h)) (scaleIn p) (freedom h);
+  spreading = spreadingFrom (wide (scaleIn p * squaresIn y (blocks h) - squaredTotalsIn words y (blocks h) (objects h))) (scaleIn p) (freedom h);
 }
 
 -- the room of the values after, and that of the deviations

@@ -1,9 +1,12 @@
 // The deviations of a job under its exact values: all numerators into lent room, or that of one block.
 use crate::spread::worked;
 use crate::values::set_sum;
+use arithmetic::add_square;
+use arithmetic::size;
 use records::BlockDeviation;
 use records::Head;
 use records::Verdict;
+use records::Wide;
 use verdicts::is_refused;
 use verdicts::no_deviation;
 use weighing::blocks_refusal;
@@ -12,6 +15,7 @@ ghost use Prim.Native.Nat.{ℕ, _+_, _*_, _<_, _≤_};
 ghost use lib.ListN.{getD, length};
 ghost use Rattle.algebra.specs.Buffers.{over};
 ghost use Rattle.meaning.specs.Calls.{deviationsVerdict, deviationsAfter, deviationAnswer};
+ghost use Rattle.meaning.specs.Wide.{wide};
 ghost use Rattle.weighing.specs.Developed.{Weighed};
 ghost use Rattle.analysis.specs.Worked.{totalAt, squaresIn, Held, fittedIn, deviationIn};
 
@@ -70,21 +74,20 @@ pub(crate) fn fill_deviations(
     b: usize,
     vbeta: u64,
     deviations: &mut [i64],
-) -> u64
+) -> Wide
     requires { ⌜ Weighed (now words) (now readings) b ⌝ }
     requires { ⌜ ((c : ℕ) → c < 2 * b → Held (now totals) (getD (now words) c 0)) ⌝ }
     requires { ⌜ (b ≤ length (now deviations)) × (vbeta ≤ 2600) ⌝ }
-    ensures { λ r. ⌜ r ≡ squaresIn (now (readings .entry)) b ⌝ }
+    ensures { λ r. ⌜ r ≡ wide (squaresIn (now (readings .entry)) b) ⌝ }
     ensures { λ _. ⌜ now (deviations .exit) ≡ over b (deviationIn (now (words .entry)) (now (readings .entry)) (totalAt (now (totals .entry))) vbeta)
         (now (deviations .entry)) ⌝ }
 {
     let scale = vbeta as i64;
-    let mut squares: u64 = 0;
+    let mut squares = Wide { high: 0, low: 0 };
     let mut k = 0;
     while k < b {
         let y = readings[k] as i64;
-        let square = y * y;
-        squares += square as u64;
+        squares = add_square(squares, size(y));
         deviations[k] = scale * y - fitted(words, totals, k);
         k += 1;
     }

@@ -1,17 +1,21 @@
 // Q and the spread of a job. They do not depend on the restraint, so any accepted one serves: objects 0 and 1 with the sum 0.
 use crate::whole::analyse;
 use arithmetic::spread_from;
+use arithmetic::subtract;
+use arithmetic::times;
 use design::objects;
 use records::Head;
 use records::JobSpread;
 use records::Solved;
 use records::Spreading;
 use records::SquareSum;
+use records::Wide;
 ghost use mathlib.Core.Path.{_≡_};
 ghost use Prim.Native.Nat.{_-_, _*_};
 ghost use lib.ListN.{length};
 ghost use Rattle.arithmetic.specs.Hundredths.{spreadingFrom};
 ghost use Rattle.meaning.specs.Analysis.{freedom};
+ghost use Rattle.meaning.specs.Wide.{value, wide};
 ghost use Rattle.meaning.specs.Calls.{solvedUnder, deviationsVerdict, deviationsAfter, qAnswer, spreadAnswer};
 ghost use Rattle.analysis.specs.Worked.{Measured};
 
@@ -21,10 +25,9 @@ pub fn q(head: Head, blocks: &[u8], readings: &[i32]) -> SquareSum
 {
     let measured = spread(head, blocks, readings);
     let verdict = measured.verdict;
-    SquareSum {
-        verdict,
-        sum: measured.spreading.q,
-    }
+    let spreading = measured.spreading;
+    let sum = spreading.q;
+    SquareSum { verdict, sum }
 }
 
 // The spread, with all that it is made from.
@@ -59,11 +62,12 @@ pub(crate) fn worked(head: Head, blocks: &[u8], readings: &[i32], deviations: &m
 }
 
 // The spread, from v·beta, the sum of the squared readings and that of the squared totals.
-pub(crate) fn measure(head: Head, vbeta: u64, readings: u64, totals: u64) -> Spreading
-    requires { ⌜ Measured head vbeta readings totals ⌝ }
-    ensures { λ r. ⌜ r ≡ spreadingFrom (vbeta * readings - totals) vbeta (freedom head) ⌝ }
+pub(crate) fn measure(head: Head, vbeta: u64, readings: Wide, totals: Wide) -> Spreading
+    requires { ⌜ Measured head vbeta (value readings) (value totals) ⌝ }
+    ensures { λ r. ⌜ r ≡ spreadingFrom (wide (vbeta * value readings - value totals)) vbeta (freedom head) ⌝ }
 {
-    let q = vbeta * readings - totals;
+    let scaled = times(readings, vbeta);
+    let q = subtract(scaled, totals);
     let freedom = head.m * head.n + 1 - objects(head);
     spread_from(q, vbeta, freedom as u64)
 }

@@ -76,7 +76,7 @@ module _ (s : Solved) (answer : List ℕ) (real : List Float) where
   -- its slots after its own verdict
   slots-last : solvedCall s answer real ≡ s .verdict ⨾ solvedRoom (length answer) (length real)
   unfolding solvedCall
-  slots-last = joined (s .verdict) (room (length answer) 12) (room (length real) 1)
+  slots-last = joined (s .verdict) (room (length answer) 13) (room (length real) 1)
 
   -- with too few of them
   pub solved-short : (tests : Verdict) (h : Head) (words values deviations : ℕ) → s .verdict ≡ tests ⨾ rooms h words values deviations
@@ -85,7 +85,7 @@ module _ (s : Solved) (answer : List ℕ) (real : List Float) where
   solved-short tests h words values deviations v e =
       slots-last
       ∙ short tests (rooms h words values deviations) v (three-ten (leb (2 * blocks h) words) (leb (objects h) values) (leb (blocks h) deviations))
-      (are-ten (leb 12 (length answer)) (leb 1 (length real)) e)
+      (are-ten (leb 13 (length answer)) (leb 1 (length real)) e)
 
   -- with enough
   pub solved-enough : given (solvedRoom (length answer) (length real)) false true ≡ false → solvedCall s answer real ≡ s .verdict

@@ -128,7 +128,7 @@ pub sum-of-squares-numbered : (h : Head) (y : List ℤ) (answer : List ℕ) → 
 unfolding sumCall squaredReadingsVerdict
 sum-of-squares-numbered h y answer =
     let lengths = numbered-then (sizes-numbered h) (length-numbered (length y) (blocks h)) in
-    numbered-then (numbered-then lengths (reach-numbered y)) (room-numbered (length answer) 1)
+    numbered-then (numbered-then lengths (reach-numbered y)) (room-numbered (length answer) 2)
 
 module _ (h : Head) (d : List ℕ) (y : List ℤ) where
   slices-numbered : Numbered (slices h d y)
@@ -146,7 +146,7 @@ module _ (h : Head) (d : List ℕ) (y : List ℤ) where
 
   pub sum-of-squared-totals-numbered : (answer : List ℕ) → Numbered (sumCall (squaredTotalsAnswer h d y) answer)
   unfolding sumCall squaredTotalsVerdict
-  sum-of-squared-totals-numbered answer = numbered-then (numbered-then listed-numbered (reach-numbered y)) (room-numbered (length answer) 1)
+  sum-of-squared-totals-numbered answer = numbered-then (numbered-then listed-numbered (reach-numbered y)) (room-numbered (length answer) 2)
 
   -- ---- deviations, Q, spread
 
@@ -166,11 +166,11 @@ module _ (h : Head) (d : List ℕ) (y : List ℤ) where
 
   pub q-numbered : (answer : List ℕ) → Numbered (sumCall (qAnswer h d y) answer)
   unfolding sumCall
-  q-numbered answer = numbered-then readings-numbered (room-numbered (length answer) 1)
+  q-numbered answer = numbered-then readings-numbered (room-numbered (length answer) 2)
 
   pub spread-numbered : (answer : List ℕ) (real : List Float) → Numbered (spreadCall (spreadAnswer h d y) answer real)
   unfolding spreadCall
-  spread-numbered answer real = numbered-then (numbered-then readings-numbered (room-numbered (length answer) 5)) (room-numbered (length real) 1)
+  spread-numbered answer real = numbered-then (numbered-then readings-numbered (room-numbered (length answer) 6)) (room-numbered (length real) 1)
 
   -- ---- whole jobs
 
@@ -209,7 +209,7 @@ pub analyse-numbered : (h : Head) (d : List ℕ) (y : List ℤ) (w : ℕ) (M : �
 unfolding solvedCall analyseVerdict
 analyse-numbered h d y w M words values deviations answer real =
     let tests = numbered-then (job-numbered h d y w M) (rooms-numbered h (length words) (length values) (length deviations)) in
-    numbered-then (numbered-then tests (room-numbered (length answer) 12)) (room-numbered (length real) 1)
+    numbered-then (numbered-then tests (room-numbered (length answer) 13)) (room-numbered (length real) 1)
 
 -- ---- files
 
@@ -257,7 +257,7 @@ module _ (s : List ℕ) where
   unfolding solvedCall solveVerdict
   solve-numbered words values deviations answer real =
       let tests = numbered-then file-numbered (rooms-numbered (headOf s) (length words) (length values) (length deviations)) in
-      numbered-then (numbered-then tests (room-numbered (length answer) 12)) (room-numbered (length real) 1)
+      numbered-then (numbered-then tests (room-numbered (length answer) 13)) (room-numbered (length real) 1)
 
   pub listing-numbered : (out answer : List ℕ) → Numbered (listedCall (fileListed s out) answer)
   unfolding listedCall

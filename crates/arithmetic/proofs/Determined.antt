@@ -24,6 +24,27 @@ use Rattle.arithmetic.proofs.rounding.hundredths_part.Reads as hundredt
 use Rattle.arithmetic.proofs.spread.spread_from as spread-from
 use Rattle.arithmetic.proofs.spread.spread_from.Kinds as spread-from-kinds
 use Rattle.arithmetic.proofs.spread.spread_from.Reads as spread-from-reads
+use Rattle.arithmetic.proofs.wide.product as product
+use Rattle.arithmetic.proofs.wide.product.Kinds as product-kinds
+use Rattle.arithmetic.proofs.wide.product.Reads as product-reads
+use Rattle.arithmetic.proofs.wide.add as add
+use Rattle.arithmetic.proofs.wide.add.Kinds as add-kinds
+use Rattle.arithmetic.proofs.wide.add.Reads as add-reads
+use Rattle.arithmetic.proofs.wide.add_square as add-square
+use Rattle.arithmetic.proofs.wide.add_square.Kinds as add-square-kinds
+use Rattle.arithmetic.proofs.wide.add_square.Reads as add-square-reads
+use Rattle.arithmetic.proofs.wide.at_most as at-most
+use Rattle.arithmetic.proofs.wide.at_most.Kinds as at-most-kinds
+use Rattle.arithmetic.proofs.wide.at_most.Reads as at-most-reads
+use Rattle.arithmetic.proofs.wide.subtract as subtract
+use Rattle.arithmetic.proofs.wide.subtract.Kinds as subtract-kinds
+use Rattle.arithmetic.proofs.wide.subtract.Reads as subtract-reads
+use Rattle.arithmetic.proofs.wide.times as times
+use Rattle.arithmetic.proofs.wide.times.Kinds as times-kinds
+use Rattle.arithmetic.proofs.wide.times.Reads as times-reads
+use Rattle.arithmetic.proofs.wide.divide as divide
+use Rattle.arithmetic.proofs.wide.divide.Kinds as divide-kinds
+use Rattle.arithmetic.proofs.wide.divide.Reads as divide-reads
 
 -- `value_from`: the answer
 module _ (κs : Lfts 0) (a : ArgsD value-from.signature κs) (r q : ResD value-from.signature κs)
@@ -66,3 +87,52 @@ module _ (κs : Lfts 0) (a : ArgsD spread-from.signature κs) (r q : ResD spread
   pub spread-from-determined : spread-from-reads.Post κs a r s → spread-from-reads.Post κs a q t →
       r ≡ q
   spread-from-determined p e = p ∙ sym e
+
+-- `product`: the answer
+module _ (κs : Lfts 0) (a : ArgsD product.signature κs) (r q : ResD product.signature κs)
+    (s t : AtExit (endedOf 0 product-kinds.ps product-kinds.r) κs) where
+  pub product-determined : product-reads.Post κs a r s → product-reads.Post κs a q t →
+      r ≡ q
+  product-determined p e = p ∙ sym e
+
+-- `add`: the answer
+module _ (κs : Lfts 0) (a : ArgsD add.signature κs) (r q : ResD add.signature κs)
+    (s t : AtExit (endedOf 0 add-kinds.ps add-kinds.r) κs) where
+  pub add-determined : add-reads.Post κs a r s → add-reads.Post κs a q t →
+      r ≡ q
+  add-determined p e = p ∙ sym e
+
+-- `add_square`: the answer
+module _ (κs : Lfts 0) (a : ArgsD add-square.signature κs) (r q : ResD add-square.signature κs)
+    (s t : AtExit (endedOf 0 add-square-kinds.ps add-square-kinds.r) κs) where
+  pub add-square-determined : add-square-reads.Post κs a r s → add-square-reads.Post κs a q t →
+      r ≡ q
+  add-square-determined p e = p ∙ sym e
+
+-- `at_most`: the answer
+module _ (κs : Lfts 0) (a : ArgsD at-most.signature κs) (r q : ResD at-most.signature κs)
+    (s t : AtExit (endedOf 0 at-most-kinds.ps at-most-kinds.r) κs) where
+  pub at-most-determined : at-most-reads.Post κs a r s → at-most-reads.Post κs a q t →
+      r ≡ q
+  at-most-determined p e = p ∙ sym e
+
+-- `subtract`: the answer
+module _ (κs : Lfts 0) (a : ArgsD subtract.signature κs) (r q : ResD subtract.signature κs)
+    (s t : AtExit (endedOf 0 subtract-kinds.ps subtract-kinds.r) κs) where
+  pub subtract-determined : subtract-reads.Post κs a r s → subtract-reads.Post κs a q t →
+      r ≡ q
+  subtract-determined p e = p ∙ sym e
+
+-- `times`: the answer
+module _ (κs : Lfts 0) (a : ArgsD times.signature κs) (r q : ResD times.signature κs)
+    (s t : AtExit (endedOf 0 times-kinds.ps times-kinds.r) κs) where
+  pub times-determined : times-reads.Post κs a r s → times-reads.Post κs a q t →
+      r ≡ q
+  times-determined p e = p ∙ sym e
+
+-- `divide`: the answer
+module _ (κs : Lfts 0) (a : ArgsD divide.signature κs) (r q : ResD divide.signature κs)
+    (s t : AtExit (endedOf 0 divide-kinds.ps divide-kinds.r) κs) where
+  pub divide-determined : divide-reads.Post κs a r s → divide-reads.Post κs a q t →
+      r ≡ q
+  divide-determined p e = p ∙ sym e

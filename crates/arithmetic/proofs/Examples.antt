@@ -1,13 +1,18 @@
--- Worked cases, which compute: 2 / 3, -1 / 3 and the ends of the exact range as f64s; halves, thirds and the outside of the range in hundredths.
--- Assumes nothing.
+-- Worked cases, which compute: 2 / 3, -1 / 3 and the ends of the exact range as f64s; halves, thirds and the outside of the range in hundredths;
+-- quotients of numbers of two words, and the range of a spread, at their ends. Assumes nothing.
 use mathlib.Core.Path.{_≡_, refl}
-use mathlib.Core.Bool.{Bool, true, false, _&&_}
+use mathlib.Core.Bool.{Bool, true, false, not, _&&_}
 use mathlib.Core.List.{List, [], _∷_}
-use Prim.Native.Nat.{ℕ}
+use Prim.Native.Nat.{ℕ, _+_, _*_, _^_}
+use lib.Dec.{eqb}
 use lib.IntN.{ℤ, pos, negsuc}
 use lib.Ieee.{fin, round}
 use Rattle.algebra.specs.Ranges.{eqZ}
+use Rattle.meaning.specs.Wide.{wide}
+use Rattle.arithmetic.specs.declared.wide.Divided.{Divided}
 use Rattle.arithmetic.specs.Quotient.{exact, quotientOf, hundredthsOf}
+use Rattle.arithmetic.specs.Division.{divided}
+use Rattle.arithmetic.specs.Hundredths.{ranged}
 
 -- 2 / 3
 two-thirds : quotientOf (pos 2) 3 ≡ fin false 6004799503160661 (negsuc 52)
@@ -55,3 +60,28 @@ every (r ∷ rs) = agrees r && every rs
 hundredths-rows : every rows ≡ true
 unfolding hundredthsOf exact
 hundredths-rows = refl
+
+-- whether a quotient has the words h and l, and the rest r
+abbrev leaves : Divided → ℕ → ℕ → ℕ → Bool
+leaves d h l r = eqb (d .quotient .high) h && eqb (d .quotient .low) l && eqb (d .rest) r
+
+-- inside the range, by 0, and by the first number that is too large
+quotients : (
+    leaves (divided (2 ^ 64 * 7 + 1) 7) 1 0 1
+    && leaves (divided (2 ^ 100) 10) 6871947673 11068046444225730969 6
+    && leaves (divided 5 0) 0 0 0
+    && leaves (divided 5 4294967296) 0 0 0
+    && leaves (divided 5 4294967295) 0 0 5) ≡ true
+unfolding divided wide
+quotients = refl
+
+-- the corners of the range of a spread, and one past each
+ranges : (
+    ranged 151115727451828646838271 2600 1300
+    && ranged 0 1 0
+    && not (ranged 151115727451828646838272 2600 1300)
+    && not (ranged 0 0 0)
+    && not (ranged 0 2601 0)
+    && not (ranged 0 1 1301)) ≡ true
+unfolding ranged
+ranges = refl

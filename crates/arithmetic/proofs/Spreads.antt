@@ -1,8 +1,9 @@
--- The range as facts, and the hundredths inside it: the largest whole number whose square, times v·beta·f, is at most 10,000·Q. Assumes nothing.
+-- The range as facts, and the hundredths inside it: the root of 10,000·Q by v·beta·f. Assumes nothing.
 use mathlib.Core.Path.{_≡_, refl, ap, _∙_}
 use mathlib.Core.Bool.{Bool, true, false, cond, _&&_}
-use Prim.Native.Nat.{ℕ, zero, suc, _+_, _*_, _/_, _^_, _≤_, _<_}
-use native.Mathlib.Nat.{mul-le-mul, mul-pos, div-le-self, le-div-iff-mul-le, div-lt-iff-lt-mul, lt-of-le-of-lt, lt-trans}
+use Prim.Native.Nat.{ℕ, zero, suc, _*_, _/_, _^_, _≤_, _<_}
+use native.Mathlib.Nat.{mul-le-mul, mul-pos, div-le-self, lt-of-le-of-lt, lt-of-not-le, lt-trans}
+use native.Mathlib.Decide.{decLe}
 use native.Mathlib.Omega.{arith}
 use borrow.Author.Tests.{ltb-true, lt-ltb, leb-true, le-leb}
 use lib.Dec.{ltb, leb, lit<}
@@ -11,20 +12,21 @@ use Rattle.meaning.specs.Analysis.{root, spreadHundredths}
 use lib.Ieee.{Float}
 use lib.IntN.{pos}
 use Rattle.records.specs.declared.Spreading.{Spreading}
+use Rattle.records.specs.declared.Wide.{Wide}
 use Rattle.records.specs.declared.Spread.{Spread}
 use Rattle.records.specs.declared.Spread.the-variants.{Of}
 use Rattle.meaning.specs.Publishing.{spreadOf}
+use Rattle.meaning.specs.Wide.{value}
 use Rattle.arithmetic.specs.Quotient.{quotientOf}
 use Rattle.arithmetic.proofs.Exact.{quotient-is}
 use Rattle.arithmetic.specs.Hundredths.{ranged, hundredthsFrom, spreadingFrom}
-use Rattle.laws.proofs.Rounding.{root-is, root-largest}
-use Rattle.arithmetic.proofs.spread.Hundreds.{root-lt}
+use Rattle.laws.proofs.Rounding.{root-largest}
 
 -- ---- the range
 
 -- the three numbers are in their range
 pub record Ranged (q vbeta freedom : ℕ) : Type 0 where
-  pub q-most : q < 2 ^ 57
+  pub q-most : q < 2 ^ 77
   pub vbeta-some : 0 < vbeta
   pub vbeta-most : vbeta ≤ 2600
   pub freedom-most : freedom ≤ 1300
@@ -34,10 +36,10 @@ module _ (q s f : ℕ) where
   pub ranged-is : ranged q s f ≡ true → Ranged q s f
   unfolding ranged
   ranged-is e =
-      let a = and-right (ltb q (2 ^ 57)) (ltb 0 s && (leb s 2600 && leb f 1300)) e in
+      let a = and-right (ltb q (2 ^ 77)) (ltb 0 s && (leb s 2600 && leb f 1300)) e in
       let b = and-right (ltb 0 s) (leb s 2600 && leb f 1300) a in
       record {
-        q-most = ltb-true _ _ (and-left (ltb q (2 ^ 57)) (ltb 0 s && (leb s 2600 && leb f 1300)) e);
+        q-most = ltb-true _ _ (and-left (ltb q (2 ^ 77)) (ltb 0 s && (leb s 2600 && leb f 1300)) e);
         vbeta-some = ltb-true _ _ (and-left (ltb 0 s) (leb s 2600 && leb f 1300) a);
         vbeta-most = leb-true _ _ (and-left (leb s 2600) (leb f 1300) b);
         freedom-most = leb-true _ _ (and-right (leb s 2600) (leb f 1300) b);
@@ -57,23 +59,21 @@ module _ (q s f : ℕ) where
       by false e = refl
 
 -- v·beta·f is above 0 and fits
-pub product-range : (q s f : ℕ) → Ranged q s f → 0 < f → (0 < s * f) × (s * f < 2 ^ 22)
+pub product-range : (q s f : ℕ) → Ranged q s f → 0 < f → (0 < s * f) × (s * f < 2 ^ 32)
 product-range q s f r l =
     (mul-pos (r .vbeta-some) l, omega (arith, mul-le-mul (r .vbeta-most) (r .freedom-most)))
 
 -- ---- the hundredths
 
 -- 10,000·Q over anything is far below what the root of the definition takes
-few : (q d : ℕ) → q < 2 ^ 57 → 10000 * q / d < 4 ^ 64
+few : (q d : ℕ) → q < 2 ^ 77 → 10000 * q / d < 4 ^ 64
 few q d h =
-    let most : 10000 * q < 2 ^ 71 = omega arith in
+    let most : 10000 * q < 2 ^ 91 = omega arith in
     lt-of-le-of-lt (div-le-self (10000 * q) d) (lt-trans most (lit< tt))
 
--- the largest k is k
-pub largest-is : (q s f k : ℕ) → q < 2 ^ 57 → 0 < s * f → k * k * (s * f) ≤ 10000 * q → 10000 * q < (k + 1) * (k + 1) * (s * f) → k ≡ spreadHundredths q s f
-unfolding spreadHundredths
-largest-is q s zero k h d low high = absurd (omega arith)
-largest-is q s (suc f) k h d low high = root-is 64 (10000 * q / (s * suc f)) k (few q (s * suc f) h) (le-div-iff-mul-le d .1 low) (div-lt-iff-lt-mul d .1 high)
+-- 10,000·Q is far below 2 ^ 128
+pub scaled-fits : (q : ℕ) → q < 2 ^ 77 → q * 10000 < 2 ^ 120
+scaled-fits q h = omega arith
 
 -- with no freedom it is 0
 pub no-freedom : (q s : ℕ) → hundredthsFrom q s 0 ≡ 0
@@ -89,20 +89,34 @@ pub hundredths-is : (q s f : ℕ) → Ranged q s f → hundredthsFrom q s f ≡ 
 unfolding hundredthsFrom
 hundredths-is q s f r = rw (is-ranged q s f r)
 
+-- which is, with freedom, the root of the quotient
+pub root-of-quotient : (q s f : ℕ) → Ranged q s f → 0 < f → hundredthsFrom q s f ≡ root 64 (10000 * q / (s * f))
+unfolding spreadHundredths
+root-of-quotient q s zero r l = absurd (omega arith)
+root-of-quotient q s (suc f) r l = hundredths-is q s (suc f) r
+
 -- outside it is 0
 pub hundredths-none : (q s f : ℕ) → ranged q s f ≡ false → hundredthsFrom q s f ≡ 0
 unfolding hundredthsFrom
 hundredths-none q s f e = rw e
 
+-- a number whose square is below that of another is below it
+root-lt : (a b : ℕ) → a * a < b * b → a < b
+root-lt a b h = by (decLe b a)
+  where
+    by : Dec (b ≤ a) → a < b
+    by (yes l) = absurd (omega (arith, mul-le-mul l l))
+    by (no f) = lt-of-not-le f
+
 -- k is an f64 exactly
-small : (q s f : ℕ) → q < 2 ^ 57 → spreadHundredths q s f < 2 ^ 53
+small : (q s f : ℕ) → q < 2 ^ 77 → spreadHundredths q s f < 2 ^ 53
 unfolding spreadHundredths
 small q s zero h = omega arith
 small q s (suc f) h =
     let x = 10000 * q / (s * suc f) in
     let l : x ≤ 10000 * q = div-le-self (10000 * q) (s * suc f) in
     let low : root 64 x * root 64 x ≤ x = root-largest 64 x (few q (s * suc f) h) .0 in
-    let r : root 64 x < 2 ^ 36 = root-lt (root 64 x) (2 ^ 36) (omega arith) in
+    let r : root 64 x < 2 ^ 46 = root-lt (root 64 x) (2 ^ 46) (omega arith) in
     omega arith
 
 -- so are the hundredths, always
@@ -122,6 +136,6 @@ some-spread k zero x h l e = absurd (omega arith)
 some-spread k (suc f) x h l e = ap (λ (y : Float). Of y (suc f)) (e ∙ quotient-is (pos k) 100 (record { top = h; above = omega arith; bottom = omega arith }))
 
 -- a spread is made from its hundredths and its enum
-pub spreading-is : (q s f k : ℕ) (x : Spread) → k ≡ hundredthsFrom q s f → x ≡ spreadOf k f
+pub spreading-is : (q : Wide) (s f k : ℕ) (x : Spread) → k ≡ hundredthsFrom (value q) s f → x ≡ spreadOf k f
     → _≡_ {A = Spreading} (record { q = q; vbeta = s; freedom = f; hundredths = k; spread = x }) (spreadingFrom q s f)
 spreading-is q s f k x e g = λ j. record { q = q; vbeta = s; freedom = f; hundredths = e j; spread = (g ∙ ap (λ (k : ℕ). spreadOf k f) e) j }

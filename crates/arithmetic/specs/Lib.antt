@@ -1,3 +1,4 @@
 -- What a fraction is published as, and what the spread is, on every input.
 pub mod Quotient
 pub mod Hundredths
+pub mod Division

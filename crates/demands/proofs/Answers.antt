@@ -34,6 +34,7 @@ use Rattle.demands.specs.Job.{Job, v, b, verdictOf}
 use Rattle.demands.specs.Refusals.{fiveFor, ten}
 use Rattle.demands.specs.Outcomes.{WritesOnly}
 use Rattle.demands.specs.Answers.{Demand2Calls}
+use Rattle.demands.proofs.Whole.{squared-readings-whole, squared-totals-whole, q-whole}
 use Rattle.demands.proofs.Outcomes.{writes-front, writes-part}
 use Rattle.demands.proofs.Balance.{design-exactly, design-unbalanced, job-exactly, job-unbalanced, job-well-formed, no-restraint}
 use Rattle.demands.proofs.Papers.{developed, judged, papers-parameters, papers-fractions}
@@ -105,8 +106,11 @@ module _ (j : Job) where
     judgement = λ e. rw e;
     squared-readings = λ e. rw e;
     squared-totals = λ e. rw e;
+    squared-readings-whole = squared-readings-whole h d y;
+    squared-totals-whole = squared-totals-whole h d y;
     total-of = λ i e. rw e;
     Q-of = λ e. rw e;
+    Q-whole = q-whole h d y;
     spread-of = λ e. rw e;
     deviations-of-all = λ deviations e. writes-under _ (b j) _ deviations e (last-room (readingsVerdict h d y) (length deviations) (b j) e);
     deviation-of = λ i e. rw e;

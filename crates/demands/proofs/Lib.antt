@@ -4,6 +4,7 @@ pub mod Order
 pub mod Calls
 pub mod Balance
 pub mod Papers
+pub mod Whole
 pub mod Answers
 pub mod Published
 pub mod Writing

@@ -107,11 +107,11 @@ callRows =
     ∷ says (six (three pair ys 1 (pos 0))) 0 0
     ∷ says (seven (three pair ys 0 (pos 0))) 7 0
     ∷ says (seven (three pair ys 8 (pos 0))) 7 0
-    ∷ says (seven (three pair ys 7 (negsuc 999999999))) 0 0
-    ∷ says (seven (three pair ys 7 (pos 1000000001))) 7 0
+    ∷ says (seven (three pair ys 7 (negsuc 999999999999))) 0 0
+    ∷ says (seven (three pair ys 7 (pos 1000000000001))) 7 0
     ∷ says (eleven (three pair ys 4 (pos 0))) 11 0
     ∷ says (eleven (three pair ys 5 (pos 0))) 0 0
-    ∷ says (eight (three pair (pos 200000 ∷ negsuc 200000 ∷ pos 200001 ∷ []) 1 (pos 0))) 8 1
+    ∷ says (eight (three pair (pos 200000000 ∷ negsuc 200000000 ∷ pos 200000001 ∷ []) 1 (pos 0))) 8 1
     ∷ says (ten 5 6) 10 0
     ∷ says (ten 6 6) 0 0
     ∷ says (ten 7 6) 0 0

@@ -23,6 +23,7 @@ use Rattle.meaning.specs.Analysis.{
 }
 use Rattle.meaning.specs.Publishing.{spreadOf, valueOf}
 use Rattle.meaning.specs.Refusals.{accepted, refused, _⨾_}
+use Rattle.meaning.specs.Wide.{value, wide}
 use Rattle.meaning.specs.Calls.{
   wordAt,
   designVerdict,
@@ -94,16 +95,20 @@ module _ (j : Job) where
 
     -- `sum_of_squares`, `sum_of_squared_totals`
     pub squared-readings : OnAcceptance (squaredReadingsVerdict h y) (squaredReadingsAnswer h y)
-        (record { verdict = accepted; sum = natAbs (squaredReadings h y) })
+        (record { verdict = accepted; sum = wide (natAbs (squaredReadings h y)) })
     pub squared-totals : OnAcceptance (squaredTotalsVerdict h d y) (squaredTotalsAnswer h d y)
-        (record { verdict = accepted; sum = natAbs (squaredTotals h d y) })
+        (record { verdict = accepted; sum = wide (natAbs (squaredTotals h d y)) })
+    -- their two words are the very sums, which no word is lost from; so are those of Q below
+    pub squared-readings-whole : squaredReadingsVerdict h y ≡ accepted → value (squaredReadingsAnswer h y .sum) ≡ natAbs (squaredReadings h y)
+    pub squared-totals-whole : squaredTotalsVerdict h d y ≡ accepted → value (squaredTotalsAnswer h d y .sum) ≡ natAbs (squaredTotals h d y)
     -- `total`: of object i
     pub total-of : (i : ℕ) → OnAcceptance (totalVerdict h d y i) (totalAnswer h d y i) (record { verdict = accepted; total = total h d y i })
     -- `q`; and `spread`, with all that it is made from
-    pub Q-of : OnAcceptance (readingsVerdict h d y) (qAnswer h d y) (record { verdict = accepted; sum = qOf h d y })
+    pub Q-of : OnAcceptance (readingsVerdict h d y) (qAnswer h d y) (record { verdict = accepted; sum = wide (qOf h d y) })
+    pub Q-whole : readingsVerdict h d y ≡ accepted → (value (qAnswer h d y .sum) ≡ qOf h d y) × (value (spreadAnswer h d y .spreading .q) ≡ qOf h d y)
     pub spread-of : let k = spreadHundredthsOf h d y in OnAcceptance (readingsVerdict h d y) (spreadAnswer h d y) (record {
       verdict = accepted;
-      spreading = record { q = qOf h d y; vbeta = vbeta h d; freedom = freedom h; hundredths = k; spread = spreadOf k (freedom h) };
+      spreading = record { q = wide (qOf h d y); vbeta = vbeta h d; freedom = freedom h; hundredths = k; spread = spreadOf k (freedom h) };
     })
     -- `deviations`: the numerators of all; `deviation_of`: of block i
     pub deviations-of-all : (deviations : List ℤ) → let verdict = deviationsVerdict h d y (length deviations) in

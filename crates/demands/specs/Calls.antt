@@ -9,6 +9,7 @@ use lib.IntN.{ℤ, pos}
 use lib.ListN.{length}
 use Rattle.meaning.specs.Refusals.{_⨾_}
 use Rattle.meaning.specs.Publishing.{noValue}
+use Rattle.meaning.specs.Wide.{wideZero}
 use Rattle.meaning.specs.Calls.{
   designVerdict,
   developVerdict,
@@ -74,11 +75,11 @@ module _ (j : Job) where
     -- `sum_of_squares`: of the readings
     pub squared-readings :
         (squaredReadingsVerdict h y ≡ four j ⨾ threeReadings j ⨾ eight j)
-        × OnRefusal (squaredReadingsVerdict h y) (squaredReadingsAnswer h y) (record { verdict = squaredReadingsVerdict h y; sum = 0 })
+        × OnRefusal (squaredReadingsVerdict h y) (squaredReadingsAnswer h y) (record { verdict = squaredReadingsVerdict h y; sum = wideZero })
     -- `sum_of_squared_totals`: balanced or not
     pub squared-totals :
         (squaredTotalsVerdict h d y ≡ four j ⨾ threeBlocks j ⨾ threeReadings j ⨾ five j ⨾ eight j)
-        × OnRefusal (squaredTotalsVerdict h d y) (squaredTotalsAnswer h d y) (record { verdict = squaredTotalsVerdict h d y; sum = 0 })
+        × OnRefusal (squaredTotalsVerdict h d y) (squaredTotalsAnswer h d y) (record { verdict = squaredTotalsVerdict h d y; sum = wideZero })
     -- `total`: of object i, balanced or not
     pub total-of : (i : ℕ) → let verdict = totalVerdict h d y i in
         (verdict ≡ four j ⨾ threeBlocks j ⨾ threeReadings j ⨾ five j ⨾ fiveFor i (v j) ⨾ eight j)
@@ -86,7 +87,7 @@ module _ (j : Job) where
     -- `q`, `spread`
     pub Q-and-spread : let verdict = readingsVerdict h d y in
         (verdict ≡ four j ⨾ threeBlocks j ⨾ threeReadings j ⨾ five j ⨾ six j ⨾ eight j)
-        × OnRefusal verdict (qAnswer h d y) (record { verdict = verdict; sum = 0 })
+        × OnRefusal verdict (qAnswer h d y) (record { verdict = verdict; sum = wideZero })
         × OnRefusal verdict (spreadAnswer h d y) (record { verdict = verdict; spreading = noSpreading })
     -- `deviations`: the numerators of all
     pub deviations-of-all : (deviations : List ℤ) → let verdict = deviationsVerdict h d y (length deviations) in

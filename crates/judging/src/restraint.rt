@@ -8,7 +8,7 @@ ghost use Rattle.laws.specs.Fits.{Fits};
 ghost use Rattle.meaning.specs.Refusals.{restraint};
 
 // The largest accepted sum, on either side of 0.
-const SUM_LIMIT: i64 = 1000000000;
+const SUM_LIMIT: i64 = 1000000000000;
 
 // The restraint set is not empty and has no bit at v or above, and the sum is in its range; then, that it has two objects at least.
 pub(crate) fn restraint_refusal(head: Head, set: u64, sum: i64) -> Verdict

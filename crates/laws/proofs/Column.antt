@@ -19,7 +19,7 @@ use borrow.Author.Tests.{lt-ltb, le-ltb, eq-eqb, ne-eqb}
 use Rattle.algebra.specs.Ranges.{sum, sumℕ}
 use Rattle.algebra.proofs.Solver.{_⊕_, _⊗_, _⊝_, ⊖_, #, _≐_, ring₂, ring₃, ring₄, ring₅}
 use Rattle.algebra.proofs.Order.{pos-inj, pos-sub, comb₁}
-use Rattle.algebra.proofs.Bounds.{abs-*, abs-neg}
+use Rattle.algebra.proofs.Bounds.{abs-*, abs-neg, abs-sub}
 use Rattle.algebra.proofs.Sums.{sum-ext, sum-add, sum-scale, sum-scale-r, pos-sum, sumℕ-cong, sumℕ-add, sumℕ-scale, sumℕ-le, sumℕ-delta}
 use Rattle.records.specs.declared.Head.{Head}
 use Rattle.meaning.specs.Design.{objects}
@@ -448,6 +448,30 @@ module _ (h : Head) (d : List ℕ) (y : List ℤ) (w : ℕ) (M : ℤ) (j : Job h
       go : Dec (member w i ≡ 1) → natAbs (pos 100 *ℤ a i -ℤ published h d y w M i *ℤ pos e) ≤ e
       go (yes o) = omega (arith, job-member-near i o)
       go (no n) = omega (arith, job-other-near i n, abs-* (pos 2) (pos 100 *ℤ a i -ℤ published h d y w M i *ℤ pos e))
+
+  -- and no larger than a hundred times the numerator, and one
+  pub published-size : (i : ℕ) → natAbs (published h d y w M i) ≤ 100 * natAbs (a i) + 1
+  published-size i = go (decLe (natAbs x) (100 * natAbs (a i) + 1))
+    where
+      x : ℤ
+      x = published h d y w M i
+
+      -- what x comes to in e-ths
+      whole : natAbs x * e ≤ 100 * natAbs (a i) + e
+      whole = omega (
+        arith,
+        abs-* x (pos e),
+        abs-* (pos 100) (a i),
+        ap natAbs (ring₂ (λ y z. z ≐ y ⊝ (y ⊝ z)) (pos 100 *ℤ a i) (x *ℤ pos e) refl),
+        abs-sub (pos 100 *ℤ a i) (pos 100 *ℤ a i -ℤ x *ℤ pos e),
+        job-near i,
+      )
+
+      go : Dec (natAbs x ≤ 100 * natAbs (a i) + 1) → natAbs x ≤ 100 * natAbs (a i) + 1
+      go (yes o) = o
+      go (no o) =
+          let o′ : 100 * natAbs (a i) + 2 ≤ natAbs x = omega arith in
+          absurd (omega (arith, whole, mul-le-mul-right e o′, mul-le-mul-left (100 * natAbs (a i)) some-below, some-below))
 
   -- the members' hundredths add to 100·M
   pub job-adds-up : restrained (objects h) w (published h d y w M) ≡ pos 100 *ℤ M

@@ -30,7 +30,7 @@ use Rattle.laws.proofs.Files.{file-job}
 use Rattle.laws.proofs.Lengths.{each-length, design-length, value-length, dev-length, spread-length, refused-length}
 
 -- the listing of an accepted job
-pub job-length : (h : Head) (d : List ℕ) (y : List ℤ) (w : ℕ) (M : ℤ) → jobVerdict h d y w M ≡ accepted → length (jobText h d y w M) ≤ 51624
+pub job-length : (h : Head) (d : List ℕ) (y : List ℤ) (w : ℕ) (M : ℤ) → jobVerdict h d y w M ≡ accepted → length (jobText h d y w M) ≤ 51643
 job-length h d y w M e =
     let j = job h d y w M e in
     let size = j .measures .design .sizes in

@@ -14,7 +14,9 @@ use Rattle.records.specs.declared.Parameters.{Parameters}
 use Rattle.records.specs.declared.Spread.{Spread}
 use Rattle.records.specs.declared.Spread.the-variants.{Of, None}
 use Rattle.records.specs.declared.Spreading.{Spreading}
-use Rattle.meaning.specs.Text.{ascii, digits, spaced, signedText, each, line, designLine, valueLine, devLine, lastWord, spreadLine}
+use Rattle.records.specs.declared.Wide.{Wide}
+use Rattle.meaning.specs.Wide.{value}
+use Rattle.meaning.specs.Text.{ascii, digits, spaced, wideText, signedText, each, line, designLine, valueLine, devLine, lastWord, spreadLine}
 
 -- one digit more than the tenth has
 one-longer : (s k n : ℕ) → (10 ≤ n → length (digits s (n / 10)) ≤ k) → length (digits (suc s) n) ≤ suc k
@@ -44,6 +46,10 @@ spaced-length k n h = omega (arith, digits-power 19 k n h)
 -- the text of any number
 pub spaced-most : (n : ℕ) → length (spaced n) ≤ 21
 spaced-most n = omega (arith, digits-places 20 n)
+
+-- the text of any number of two words
+pub wide-most : (w : Wide) → length (wideText w) ≤ 40
+wide-most w = omega (arith, digits-places 39 (value w))
 
 -- the text of any signed number
 pub signed-most : (x : ℤ) → length (signedText x) ≤ 22
@@ -78,10 +84,10 @@ last-length (Of x f) k = spaced-most k
 last-length None k = omega arith
 
 -- the spread
-pub spread-length : (s : Spreading) → length (spreadLine s) ≤ 91
+pub spread-length : (s : Spreading) → length (spreadLine s) ≤ 110
 unfolding ascii
 spread-length s = simp length-append
-    (omega (arith, spaced-most (s .q), spaced-most (s .vbeta), spaced-most (s .freedom), last-length (s .spread) (s .hundredths)))
+    (omega (arith, wide-most (s .q), spaced-most (s .vbeta), spaced-most (s .freedom), last-length (s .spread) (s .hundredths)))
 
 -- a refusal
 pub refused-length : (k place : ℕ) → length (line "refused" (spaced k ++ spaced place)) ≤ 50

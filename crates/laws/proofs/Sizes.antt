@@ -43,7 +43,8 @@ use Rattle.meaning.specs.Analysis.{
   spreadHundredths,
   spreadHundredthsOf,
 }
-use Rattle.laws.proofs.Chains.{Sound, Readings}
+use Rattle.meaning.specs.Publishing.{published}
+use Rattle.laws.proofs.Chains.{Sound, Readings, Job}
 use Rattle.laws.proofs.Clean.{block-once}
 use Rattle.laws.proofs.Incidence.{block-size}
 use Rattle.laws.proofs.Counting.{incidence, parameters}
@@ -51,8 +52,10 @@ use Rattle.laws.proofs.Matrix.{difference-signs}
 use Rattle.laws.proofs.Solution.{members-most}
 use Rattle.laws.proofs.Analysis.{q-nonneg, vbeta-some}
 use Rattle.meaning.specs.Refusals.{readingLimit, sumLimit}
-use Rattle.laws.specs.Limits.{totalLimit}
+use Rattle.laws.specs.Fits.{Fits}
+use Rattle.laws.specs.Limits.{totalLimit, squaresLimit, qLimit, numeratorLimit}
 use Rattle.laws.proofs.Rounding.{spread-largest}
+use Rattle.laws.proofs.Column.{published-size}
 
 -- ---- the parameters
 
@@ -82,6 +85,15 @@ module _ (h : Head) (d : List ℕ) (s : Sound h d) (e : balanced h d ≡ true) w
       omega (arith, mul-le-mul t vbeta-most)
 
 -- ---- sums
+
+-- the sum of the squared readings, of blocks or not
+pub reading-squares-most : (h : Head) (y : List ℤ) → Fits h → Readings h y → natAbs (squaredReadings h y) ≤ squaresLimit
+unfolding squaredReadings
+reading-squares-most h y s r = omega (
+  arith,
+  abs-sum (blocks h) (readingLimit * readingLimit) (λ k. sq (reading y k)) (λ k l. abs-square (reading y k) readingLimit (r .readings-most k l)),
+  s .blocks-most,
+)
 
 module _ (h : Head) (d : List ℕ) (s : Sound h d) where
   -- a sign is at most 1
@@ -118,7 +130,7 @@ module _ (h : Head) (d : List ℕ) (s : Sound h d) where
     total-most i = omega (arith, total-partial (blocks h) i (omega arith), s .sizes .blocks-most)
 
     -- S, over the first c objects and over all
-    pub restrained-most : (c w : ℕ) → c ≤ objects h → natAbs (restrained c w (total h d y)) ≤ 13000000000
+    pub restrained-most : (c w : ℕ) → c ≤ objects h → natAbs (restrained c w (total h d y)) ≤ 50 * totalLimit
     unfolding restrained members
     restrained-most c w m = omega (
       arith,
@@ -128,26 +140,21 @@ module _ (h : Head) (d : List ℕ) (s : Sound h d) where
     )
 
     -- the sum of the squared readings
-    pub squared-readings-most : natAbs (squaredReadings h y) ≤ 52000000000000
-    unfolding squaredReadings
-    squared-readings-most = omega (
-      arith,
-      abs-sum (blocks h) 40000000000 (λ k. sq (reading y k)) (λ k l. abs-square (reading y k) readingLimit (r .readings-most k l)),
-      s .sizes .blocks-most,
-    )
+    pub squared-readings-most : natAbs (squaredReadings h y) ≤ squaresLimit
+    squared-readings-most = reading-squares-most h y (s .sizes) r
 
     -- the sum of the squared totals
-    pub squared-totals-most : natAbs (squaredTotals h d y) ≤ 3380000000000000000
+    pub squared-totals-most : natAbs (squaredTotals h d y) ≤ 50 * (totalLimit * totalLimit)
     unfolding squaredTotals
     squared-totals-most = omega (
       arith,
-      abs-sum (objects h) 67600000000000000 (λ i. sq (total h d y i)) (λ i l. abs-square (total h d y i) totalLimit (total-most i)),
+      abs-sum (objects h) (totalLimit * totalLimit) (λ i. sq (total h d y i)) (λ i l. abs-square (total h d y i) totalLimit (total-most i)),
       s .sizes .objects-most,
     )
 
     module _ (e : balanced h d ≡ true) where
       -- a value's numerator
-      pub numerator-most : (w : ℕ) (M : ℤ) (i : ℕ) → natAbs M ≤ sumLimit → natAbs (numeratorOf h d y w M i) ≤ 2626000000000
+      pub numerator-most : (w : ℕ) (M : ℤ) (i : ℕ) → natAbs M ≤ sumLimit → natAbs (numeratorOf h d y w M i) ≤ numeratorLimit
       unfolding numeratorOf
       numerator-most w M i m =
           let t : members (objects h) w ≤ 50 = omega (arith, members-most (objects h) w, s .sizes .objects-most) in
@@ -161,7 +168,7 @@ module _ (h : Head) (d : List ℕ) (s : Sound h d) where
           )
 
       -- a deviation's numerator
-      pub deviation-most : (k : ℕ) → k < blocks h → natAbs (deviationOf h d y k) ≤ 13520000000
+      pub deviation-most : (k : ℕ) → k < blocks h → natAbs (deviationOf h d y k) ≤ 2600 * readingLimit + 50 * totalLimit
       unfolding deviationOf
       deviation-most k l = omega (
         arith,
@@ -171,7 +178,7 @@ module _ (h : Head) (d : List ℕ) (s : Sound h d) where
       )
 
       -- Q, by vβ
-      pub q-by-vbeta : qOf h d y ≤ vbeta h d * 52000000000000
+      pub q-by-vbeta : qOf h d y ≤ vbeta h d * squaresLimit
       unfolding qOf squaredTotals
       q-by-vbeta = omega (
         arith,
@@ -183,39 +190,47 @@ module _ (h : Head) (d : List ℕ) (s : Sound h d) where
       )
 
       -- Q
-      pub q-most : qOf h d y ≤ 135200000000000000
+      pub q-most : qOf h d y ≤ qLimit
       q-most = omega (arith, q-by-vbeta, vbeta-most h d s e)
 
       -- 10,000 Q is in the range of the root
       pub q-in-range : 10000 * qOf h d y < 4 ^ 64
-      q-in-range = under (10000 * qOf h d y) 1352000000000000000000 (omega (arith, q-most)) (ltb-true 1352000000000000000000 (4 ^ 64) refl)
+      q-in-range = under (10000 * qOf h d y) (10000 * qLimit) (omega (arith, q-most)) (ltb-true (10000 * qLimit) (4 ^ 64) refl)
         where
           under : (a b : ℕ) {c : ℕ} → a ≤ b → b < c → a < c
           under a b l m = omega arith
 
       -- the ratio under the root, whatever f is
-      pub ratio-most : (f : ℕ) → 0 < f → 10000 * qOf h d y / (vbeta h d * f) ≤ 520000000000000000
+      pub ratio-most : (f : ℕ) → 0 < f → 10000 * qOf h d y / (vbeta h d * f) ≤ 10000 * squaresLimit
       ratio-most f l = small (10000 * qOf h d y) (vbeta h d) f (vbeta-some h d s e) l (omega (arith, q-by-vbeta))
         where
-          small : (x c f : ℕ) → 0 < c → 0 < f → x ≤ c * 520000000000000000 → x / (c * f) ≤ 520000000000000000
+          small : (x c f : ℕ) → 0 < c → 0 < f → x ≤ c * (10000 * squaresLimit) → x / (c * f) ≤ 10000 * squaresLimit
           small x c f lc lf m = le-of-mul-le-mul-left {k = c * f} (omega (arith, div-add-mod' x (c * f), m, mul-le-mul-left c lf)) (mul-pos lc lf)
 
       -- k of the job
-      pub hundredths-most : spreadHundredthsOf h d y ≤ 721110255
+      pub hundredths-most : spreadHundredthsOf h d y ≤ 721110255092
       unfolding spreadHundredthsOf spreadHundredths
       hundredths-most = go (freedom h)
         where
-          least : (k x c f : ℕ) → 0 < c → 0 < f → k * k * c * f ≤ x → x ≤ c * 520000000000000000 → k ≤ 721110255
+          least : (k x c f : ℕ) → 0 < c → 0 < f → k * k * c * f ≤ x → x ≤ c * (10000 * squaresLimit) → k ≤ 721110255092
           least k x c f lc lf a b = root-of k (le-of-mul-le-mul-left {k = c} (omega (arith, a, b, mul-le-mul-left (k * k * c) lf)) lc)
             where
-              root-of : (k : ℕ) → k * k ≤ 520000000000000000 → k ≤ 721110255
-              root-of k m = choose (decLt 721110255 k)
+              root-of : (k : ℕ) → k * k ≤ 10000 * squaresLimit → k ≤ 721110255092
+              root-of k m = choose (decLt 721110255092 k)
                 where
-                  choose : Dec (721110255 < k) → k ≤ 721110255
-                  choose (yes o) = let o′ : 721110256 ≤ k = omega arith in omega (arith, mul-le-mul o′ o′)
+                  choose : Dec (721110255092 < k) → k ≤ 721110255092
+                  choose (yes o) = let o′ : 721110255093 ≤ k = omega arith in omega (arith, mul-le-mul o′ o′)
                   choose (no o) = omega arith
 
-          go : (f : ℕ) → spreadHundredths (qOf h d y) (vbeta h d) f ≤ 721110255
+          go : (f : ℕ) → spreadHundredths (qOf h d y) (vbeta h d) f ≤ 721110255092
           go zero = omega arith
           go (suc f) = least (spreadHundredths (qOf h d y) (vbeta h d) (suc f)) (10000 * qOf h d y) (vbeta h d) (suc f) (vbeta-some h d s e) (omega arith)
               (spread-largest (qOf h d y) (vbeta h d) (suc f) (vbeta-some h d s e) (omega arith) q-in-range .0) (omega (arith, q-by-vbeta))
+
+-- published hundredths
+pub published-most : (h : Head) (d : List ℕ) (y : List ℤ) (w : ℕ) (M : ℤ) → Job h d y w M → (i : ℕ) → natAbs (published h d y w M i) ≤ 100 * numeratorLimit + 1
+published-most h d y w M j i = omega (
+  arith,
+  published-size h d y w M j i,
+  numerator-most h d (j .measures .design) y (j .measures .readings) (j .measures .even) w M i (j .restraint .sum-most),
+)

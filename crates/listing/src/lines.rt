@@ -4,6 +4,7 @@ use printing::put_byte;
 use printing::put_number;
 use printing::put_signed;
 use printing::put_text;
+use printing::put_wide;
 use records::Parameters;
 use records::Spread;
 use records::Spreading;
@@ -61,7 +62,8 @@ pub(crate) fn put_spread(out: &mut [u8], at: usize, spreading: Spreading) -> usi
     ensures { λ r. ⌜ Wrote (now (out .entry)) at (spreadLine spreading) (now (out .exit)) r ⌝ }
 {
     let word_end = put_text(out, at, b"spread");
-    let q_end = put_number(out, word_end, spreading.q);
+    let q = spreading.q;
+    let q_end = put_wide(out, word_end, q);
     let vbeta_end = put_number(out, q_end, spreading.vbeta);
     let freedom_end = put_number(out, vbeta_end, spreading.freedom);
     let spread = spreading.spread;

@@ -14,6 +14,7 @@ use Rattle.algebra.specs.Ranges.{sum, sumℕ, firstFrom}
 use Rattle.records.specs.declared.Head.{Head}
 use Rattle.records.specs.declared.Judged.{Judged}
 use Rattle.meaning.specs.Design.{fieldPrime, sized, occ, digitSum, plus, left, right, company, opposition, balanced, beta}
+use Rattle.records.specs.declared.Wide.{Wide}
 use Rattle.meaning.specs.Analysis.{
   total,
   members,
@@ -31,6 +32,7 @@ use Rattle.meaning.specs.Analysis.{
   spreadHundredthsOf,
 }
 use Rattle.meaning.specs.Publishing.{rank, shortfall, hundredthsIn, published, float, floatZero, Near, noValue, spreadOf, spreadFreedom, spreadValue}
+use Rattle.meaning.specs.Wide.{value, wide, wideZero}
 use Rattle.meaning.specs.Fractions.{Fraction, _=ᶠ_, summed, valuesAlong, deviationUnder, squaresUnder, KeepsRestraint, exactValues, publishedValues}
 use Rattle.meaning.specs.Refusals.{offender, farReading, sizes, accepted, refused}
 use Rattle.meaning.specs.Calls.{
@@ -91,7 +93,7 @@ use Rattle.meaning.specs.File.{
   sumOf,
 }
 use Rattle.meaning.specs.Writing.{bytesOf, wrapped, readingsBody, fileOf, writeVerdict, writtenAnswer, writtenAfter}
-use Rattle.meaning.specs.Text.{ascii, digits, spaced, signedText, each, textOf, benchText, listedAnswer, listedAfter}
+use Rattle.meaning.specs.Text.{ascii, digits, spaced, wideText, signedText, each, textOf, benchText, listedAnswer, listedAfter}
 use Rattle.meaning.proofs.Rows.{Row, lists, refuses, spreads, publishes, holding, counting, floats, head, every}
 use Rattle.meaning.proofs.Examples.{fileA, fileE}
 
@@ -121,10 +123,30 @@ abbrev ys4 : List ℤ
 ys4 = pos 4 ∷ negsuc 2 ∷ pos 2 ∷ pos 0 ∷ []
 
 abbrev far : List ℤ
-far = pos 200000 ∷ negsuc 200000 ∷ pos 200001 ∷ []
+far = pos 200000000 ∷ negsuc 200000000 ∷ pos 200000001 ∷ []
 
 abbrev far4 : List ℤ
-far4 = negsuc 199999 ∷ negsuc 200000 ∷ pos 200001 ∷ pos 0 ∷ []
+far4 = negsuc 199999999 ∷ negsuc 200000000 ∷ pos 200000001 ∷ pos 0 ∷ []
+
+-- the same initial block nine times, with readings at the ends of their range: one more word is needed for Q, and for the squared totals
+abbrev nine : Head
+nine = head 3 0 1 9
+
+abbrev ninePairs : List ℕ
+ninePairs = pair ++ pair ++ pair ++ pair ++ pair ++ pair ++ pair ++ pair ++ pair
+
+abbrev highest : List ℤ
+highest = replicate 27 (pos 200000000)
+
+abbrev turn : List ℤ
+turn = pos 200000000 ∷ negsuc 199999999 ∷ pos 0 ∷ []
+
+abbrev turns : List ℤ
+turns = turn ++ turn ++ turn ++ turn ++ turn ++ turn ++ turn ++ turn ++ turn
+
+-- the two words of a number
+abbrev words : Wide → List ℕ
+words w = w .high ∷ w .low ∷ []
 
 -- ---- 4: each size at both its ends
 abbrev sizeRows : List Row
@@ -218,14 +240,14 @@ callRows =
     ∷ refuses (valuesVerdict four pair far4 0 (pos 0) 0) 6 0
     ∷ refuses (valuesVerdict three pair far 0 (pos 0) 0) 7 0
     ∷ refuses (valuesVerdict three pair far 8 (pos 0) 0) 7 0
-    ∷ refuses (valuesVerdict three pair far 7 (pos 1000000001) 0) 7 0
-    ∷ refuses (valuesVerdict three pair far 7 (negsuc 1000000000) 0) 7 0
-    ∷ refuses (valuesVerdict three pair far 7 (pos 1000000000) 0) 8 1
-    ∷ refuses (valuesVerdict three pair far 4 (pos 1000000001) 0) 7 0
+    ∷ refuses (valuesVerdict three pair far 4 (pos 1000000000001) 0) 7 0
     ∷ refuses (valuesVerdict three pair far 4 (pos 0) 0) 11 0
     ∷ refuses (valuesVerdict four pair far4 1 (pos 0) 0) 6 0
-    ∷ refuses (valuesVerdict three pair ys 7 (negsuc 999999999) 2) 10 0
-    ∷ refuses (valuesVerdict three pair ys 3 (pos 1000000000) 3) 0 0
+    ∷ refuses (valuesVerdict three pair far 7 (pos 1000000000001) 0) 7 0
+    ∷ refuses (valuesVerdict three pair far 7 (negsuc 1000000000000) 0) 7 0
+    ∷ refuses (valuesVerdict three pair far 7 (pos 1000000000000) 0) 8 1
+    ∷ refuses (valuesVerdict three pair ys 7 (negsuc 999999999999) 2) 10 0
+    ∷ refuses (valuesVerdict three pair ys 3 (pos 1000000000000) 3) 0 0
     ∷ refuses (valueVerdict four (0 ∷ 0 ∷ []) far4 0 (pos 0) 4) 5 1
     ∷ refuses (valueVerdict four pair far4 0 (pos 0) 4) 5 4
     ∷ refuses (valueVerdict four pair far4 0 (pos 0) 3) 6 0
@@ -343,24 +365,35 @@ heldRows =
     ∷ counting 2 (λ i. getD (along (λ k. pos 3) [] ∷ along (λ k. pos 3) pair ∷ []) i (pos 7)) (pos 0 ∷ pos 6 ∷ [])
     ∷ holding (deviationAnswer three pair ys 1 .denominator ∷ deviationAnswer four pair ys4 1 .denominator ∷ []) (3 ∷ 0 ∷ [])
     ∷ holding
-    (squaredReadingsAnswer three ys .sum ∷ squaredTotalsAnswer three pair ys .sum ∷ qAnswer three pair ys .sum ∷ squaredReadingsAnswer three far .sum
-    ∷ squaredTotalsAnswer three pair far .sum ∷ qAnswer three pair far .sum ∷ [])
-    (29 ∷ 78 ∷ 9 ∷ 0 ∷ 0 ∷ 0 ∷ [])
+    (words (squaredReadingsAnswer three ys .sum) ++ words (squaredTotalsAnswer three pair ys .sum) ++ words (qAnswer three pair ys .sum)
+    ++ words (squaredReadingsAnswer three far .sum) ++ words (squaredTotalsAnswer three pair far .sum) ++ words (qAnswer three pair far .sum))
+    (0 ∷ 29 ∷ 0 ∷ 78 ∷ 0 ∷ 9 ∷ zeros 6)
     ∷ holding
-    (spreadAnswer three pair ys .spreading .q ∷ spreadAnswer three pair ys .spreading .vbeta ∷ spreadAnswer three pair ys .spreading .freedom
+    (words (squaredReadingsAnswer nine highest .sum) ++ words (squaredTotalsAnswer nine ninePairs turns .sum) ++ words (qAnswer nine ninePairs highest .sum))
+    (0 ∷ 1080000000000000000 ∷ 1 ∷ 993255926290448384 ∷ 1 ∷ 10713255926290448384 ∷ [])
+    ∷ holding
+    (words (spreadAnswer nine ninePairs highest .spreading .q) ++ (spreadAnswer nine ninePairs highest .spreading .hundredths ∷ []))
+    (1 ∷ 10713255926290448384 ∷ 20784609690 ∷ [])
+    ∷ holding
+    (words (wide 18446744073709551615) ++ words (wide 18446744073709551616) ++ words (wide 70304000000000000000000)
+    ++ words (wide 340282366920938463463374607431768211455) ++ words (wide 340282366920938463463374607431768211461))
+    (0 ∷ 18446744073709551615 ∷ 1 ∷ 0 ∷ 3811 ∷ 3458335092898791424 ∷ 18446744073709551615 ∷ 18446744073709551615 ∷ 0 ∷ 5 ∷ [])
+    ∷ holding (value (record { high = 3811; low = 3458335092898791424 }) ∷ []) (70304000000000000000000 ∷ [])
+    ∷ holding
+    (spreadAnswer three pair ys .spreading .q .low ∷ spreadAnswer three pair ys .spreading .vbeta ∷ spreadAnswer three pair ys .spreading .freedom
     ∷ spreadAnswer three pair ys .spreading .hundredths ∷ spreadFreedom (spreadAnswer three pair ys .spreading .spread) ∷ [])
     (9 ∷ 3 ∷ 1 ∷ 173 ∷ 1 ∷ [])
     ∷ holding
-    (spreadAnswer four pair ys4 .spreading .q ∷ spreadAnswer four pair ys4 .spreading .vbeta ∷ spreadAnswer four pair ys4 .spreading .freedom
+    (spreadAnswer four pair ys4 .spreading .q .low ∷ spreadAnswer four pair ys4 .spreading .vbeta ∷ spreadAnswer four pair ys4 .spreading .freedom
     ∷ spreadAnswer four pair ys4 .spreading .hundredths ∷ spreadFreedom (spreadAnswer four pair ys4 .spreading .spread) ∷ [])
     (zeros 5)
     ∷ holding
     (solvedUnder accepted three pair ys 5 .parameters .b ∷ solvedUnder accepted three pair ys 5 .denominator
-    ∷ solvedUnder accepted three pair ys 5 .spreading .q ∷ [])
+    ∷ solvedUnder accepted three pair ys 5 .spreading .q .low ∷ [])
     (3 ∷ 6 ∷ 9 ∷ [])
     ∷ holding
     (solvedUnder (refused 10 0) three pair ys 5 .parameters .b ∷ solvedUnder (refused 10 0) three pair ys 5 .denominator ∷ solvedUnder
-    (refused 10 0) three pair ys 5 .spreading .q ∷ spreadFreedom (solvedUnder (refused 10 0) three pair ys 5 .spreading .spread) ∷ [])
+    (refused 10 0) three pair ys 5 .spreading .q .low ∷ spreadFreedom (solvedUnder (refused 10 0) three pair ys 5 .spreading .spread) ∷ [])
     (zeros 4)
     ∷ []
 
@@ -385,7 +418,7 @@ numberRows =
     ∷ spreads 0 5 1 0
     ∷ spreads 7 5 0 0
     ∷ spreads 3 1 1 173
-    ∷ spreads 70304000000000000 1 1 26514901470
+    ∷ spreads 70304000000000000000000 1 1 26514901470682
     ∷ floats (float (pos 1) 3) (fin true 0 (pos 0)) 0
     ∷ floats (float (pos 1) 3) (fin false 6004799503160661 (negsuc 53)) 1
     ∷ floats (float (negsuc 1) 3) (fin true 6004799503160661 (negsuc 52)) 1
@@ -436,18 +469,18 @@ fileRows =
     ∷ refuses (readVerdict (set fileA 13 1)) 5 13
     ∷ refuses (readVerdict fileC) 6 0
     ∷ refuses (readVerdict (set fileC 11 3)) 6 0
-    ∷ refuses (readVerdict (set (set fileA 24 0) 36 1)) 7 14
+    ∷ refuses (readVerdict (set (set fileA 24 0) 36 12)) 7 14
     ∷ refuses (readVerdict (set fileA 24 32)) 7 14
     ∷ refuses (readVerdict (set fileA 24 1)) 11 14
     ∷ refuses (readVerdict (set (set fileA 24 16) 40 127)) 11 14
     ∷ refuses (readVerdict (set (set fileA 24 1) 25 1)) 7 14
     ∷ refuses (readVerdict (set fileA 17 128)) 7 14
     ∷ refuses (readVerdict (set fileA 25 128)) 7 14
-    ∷ refuses (readVerdict (set fileA 29 64)) 7 14
-    ∷ refuses (readVerdict (set (set fileA 40 0) 44 1)) 8 40
-    ∷ refuses (readVerdict (set fileA 52 0)) 8 52
+    ∷ refuses (readVerdict (set fileA 27 1)) 7 14
+    ∷ refuses (readVerdict (set (set fileA 40 12) 44 12)) 8 40
+    ∷ refuses (readVerdict (set fileA 52 12)) 8 52
     ∷ refuses (readVerdict (set fileA 36 128)) 8 36
-    ∷ refuses (solveVerdict (set fileA 52 0) 0 0 0) 8 52
+    ∷ refuses (solveVerdict (set fileA 52 12) 0 0 0) 8 52
     ∷ refuses (solveVerdict fileA 9 5 5) 10 0
     ∷ refuses (solveVerdict fileA 10 4 5) 10 0
     ∷ refuses (solveVerdict fileA 10 5 4) 10 0
@@ -482,14 +515,14 @@ fileInfinity =
     1 ∷ 0 ∷ 4 ∷ 3 ∷ 1 ∷ 1 ∷ 2
     ∷ 2 ∷ 0 ∷ 4 ∷ 0 ∷ 1 ∷ 0 ∷ 255
     ∷ 3 ∷ 0 ∷ 16 ∷ 0 ∷ 0 ∷ 0 ∷ 0 ∷ 0 ∷ 0 ∷ 0 ∷ 9 ∷ 255 ∷ 255 ∷ 255 ∷ 255 ∷ 255 ∷ 255 ∷ 255 ∷ 251
-    ∷ 4 ∷ 0 ∷ 24 ∷ 0 ∷ 0 ∷ 0 ∷ 7 ∷ 255 ∷ 252 ∷ 242 ∷ 192 ∷ 0 ∷ 3 ∷ 13 ∷ 64 ∷ 255 ∷ 255 ∷ 255 ∷ 255 ∷ 0 ∷ 0 ∷ 0 ∷ 0 ∷ 0 ∷ 0 ∷ 0 ∷ 3 ∷ []
+    ∷ 4 ∷ 0 ∷ 24 ∷ 0 ∷ 0 ∷ 0 ∷ 7 ∷ 244 ∷ 20 ∷ 62 ∷ 0 ∷ 11 ∷ 235 ∷ 194 ∷ 0 ∷ 255 ∷ 255 ∷ 255 ∷ 255 ∷ 0 ∷ 0 ∷ 0 ∷ 0 ∷ 0 ∷ 0 ∷ 0 ∷ 3 ∷ []
 
 -- {∞,0},{1,2}: no degree of freedom; M at its upper end
 abbrev fileNone : List ℕ
 fileNone =
     1 ∷ 0 ∷ 4 ∷ 3 ∷ 1 ∷ 2 ∷ 1
     ∷ 2 ∷ 0 ∷ 4 ∷ 255 ∷ 0 ∷ 1 ∷ 2
-    ∷ 3 ∷ 0 ∷ 16 ∷ 0 ∷ 0 ∷ 0 ∷ 0 ∷ 0 ∷ 0 ∷ 0 ∷ 6 ∷ 0 ∷ 0 ∷ 0 ∷ 0 ∷ 59 ∷ 154 ∷ 202 ∷ 0
+    ∷ 3 ∷ 0 ∷ 16 ∷ 0 ∷ 0 ∷ 0 ∷ 0 ∷ 0 ∷ 0 ∷ 0 ∷ 6 ∷ 0 ∷ 0 ∷ 0 ∷ 232 ∷ 212 ∷ 165 ∷ 16 ∷ 0
     ∷ 4 ∷ 0 ∷ 12 ∷ 0 ∷ 0 ∷ 0 ∷ 10 ∷ 255 ∷ 255 ∷ 255 ∷ 249 ∷ 0 ∷ 0 ∷ 0 ∷ 2 ∷ []
 
 -- every object restrained, M at its lower end, and readings of 0, which are readings as any other
@@ -497,7 +530,7 @@ abbrev fileZero : List ℕ
 fileZero =
     1 ∷ 0 ∷ 4 ∷ 5 ∷ 0 ∷ 2 ∷ 1
     ∷ 2 ∷ 0 ∷ 4 ∷ 1 ∷ 4 ∷ 2 ∷ 3
-    ∷ 3 ∷ 0 ∷ 16 ∷ 0 ∷ 0 ∷ 0 ∷ 0 ∷ 0 ∷ 0 ∷ 0 ∷ 31 ∷ 255 ∷ 255 ∷ 255 ∷ 255 ∷ 196 ∷ 101 ∷ 54 ∷ 0
+    ∷ 3 ∷ 0 ∷ 16 ∷ 0 ∷ 0 ∷ 0 ∷ 0 ∷ 0 ∷ 0 ∷ 0 ∷ 31 ∷ 255 ∷ 255 ∷ 255 ∷ 23 ∷ 43 ∷ 90 ∷ 240 ∷ 0
     ∷ 4 ∷ 0 ∷ 20 ∷ 0 ∷ 0 ∷ 0 ∷ 0 ∷ 0 ∷ 0 ∷ 0 ∷ 0 ∷ 0 ∷ 0 ∷ 0 ∷ 0 ∷ 0 ∷ 0 ∷ 0 ∷ 0 ∷ 0 ∷ 0 ∷ 0 ∷ 0 ∷ []
 
 -- three objects that share M = 1: each is a third, which no hundredths are
@@ -512,11 +545,11 @@ unfoldable pub listingRows : List Row
 unfolding ascii
 listingRows =
     lists fileInfinity
-    (ascii "design 4 6 3 1 0 1\nvalue 0 -200012 8 -2500150\nvalue 1 -200038 8 -2500475\nvalue 2 999982 8 12499775\nvalue 3 199972 8 2499650\ndev 0 15 4\ndev 1 -199990 4\ndev 2 200003 4\ndev 3 199988 4\ndev 4 200005 4\ndev 5 -399993 4\nspread 79997200138 4 3 8164822\n")
+    (ascii "design 4 6 3 1 0 1\nvalue 0 -200000012 8 -2500000150\nvalue 1 -200000038 8 -2500000475\nvalue 2 999999982 8 12499999775\nvalue 3 199999972 8 2499999650\ndev 0 15 4\ndev 1 -199999990 4\ndev 2 200000003 4\ndev 3 199999988 4\ndev 4 200000005 4\ndev 5 -399999993 4\nspread 79999997200000138 4 3 8164965666\n")
     ∷ lists fileNone
-    (ascii "design 4 3 3 2 1 2\nvalue 0 4000000050 8 50000000625\nvalue 1 3999999982 8 49999999775\nvalue 2 4000000018 8 50000000225\nvalue 3 4000000030 8 50000000375\ndev 0 0 4\ndev 1 0 4\ndev 2 0 4\nspread 0 4 0 none\n")
+    (ascii "design 4 3 3 2 1 2\nvalue 0 4000000000050 8 50000000000625\nvalue 1 3999999999982 8 49999999999775\nvalue 2 4000000000018 8 50000000000225\nvalue 3 4000000000030 8 50000000000375\ndev 0 0 4\ndev 1 0 4\ndev 2 0 4\nspread 0 4 0 none\n")
     ∷ lists fileZero
-    (ascii "design 5 5 4 2 1 2\nvalue 0 -5000000000 25 -20000000000\nvalue 1 -5000000000 25 -20000000000\nvalue 2 -5000000000 25 -20000000000\nvalue 3 -5000000000 25 -20000000000\nvalue 4 -5000000000 25 -20000000000\ndev 0 0 5\ndev 1 0 5\ndev 2 0 5\ndev 3 0 5\ndev 4 0 5\nspread 0 5 1 0\n")
+    (ascii "design 5 5 4 2 1 2\nvalue 0 -5000000000000 25 -20000000000000\nvalue 1 -5000000000000 25 -20000000000000\nvalue 2 -5000000000000 25 -20000000000000\nvalue 3 -5000000000000 25 -20000000000000\nvalue 4 -5000000000000 25 -20000000000000\ndev 0 0 5\ndev 1 0 5\ndev 2 0 5\ndev 3 0 5\ndev 4 0 5\nspread 0 5 1 0\n")
     ∷ lists fileThirds
     (ascii "design 3 3 2 1 0 1\nvalue 0 3 9 34\nvalue 1 3 9 33\nvalue 2 3 9 33\ndev 0 0 3\ndev 1 0 3\ndev 2 0 3\nspread 0 3 1 0\n")
     ∷ lists (fileA ++ (0 ∷ [])) (ascii "refused 9 56\n")
@@ -525,6 +558,9 @@ listingRows =
     ∷ holding (benchText (fileA ++ replicate 9000 9)) (ascii "refused 9 56\n")
     ∷ holding (spaced 18446744073709551615 ++ signedText (negsuc 9223372036854775807) ++ spaced 0 ++ signedText (pos 10))
     (ascii " 18446744073709551615 -9223372036854775808 0 10")
+    ∷ holding (wideText (wide 18446744073709551615) ++ wideText (wide 18446744073709551616) ++ wideText (wide 70304000000000000000000))
+    (ascii " 18446744073709551615 18446744073709551616 70304000000000000000000")
+    ∷ holding (wideText wideZero ++ wideText (wide 340282366920938463463374607431768211455)) (ascii " 0 340282366920938463463374607431768211455")
     ∷ holding (listedAfter [] (replicate 14 46)) (ascii "refused 1 0\n..")
     ∷ holding (listedAfter [] (replicate 11 46)) (replicate 11 46)
     ∷ holding (listedAnswer [] 12 .length ∷ listedAnswer [] 11 .length ∷ []) (12 ∷ 0 ∷ [])
@@ -587,7 +623,7 @@ unfoldable pub table : List Row
 table = sizeRows ++ designRows ++ sumRows ++ callRows ++ publishingRows ++ heldRows ++ numberRows ++ fileRows ++ writingRows ++ listingRows
 
 pub boundaries : every table ≡ true
-unfolding table listingRows fieldPrime sized occ digitSum plus left right company opposition balanced beta total members restrained numeratorOf denominatorOf along difference deviationOf squaredReadings squaredTotals qOf root spreadHundredths spreadHundredthsOf rank shortfall published offender farReading word wordAt tableOf designVerdict developVerdict initialVerdict judgeVerdict slices contents jobVerdict totalVerdict valuesVerdict valueVerdict readingsVerdict deviationsVerdict deviationVerdict squaredReadingsVerdict squaredTotalsVerdict rooms analyseVerdict big numbersAt fieldVerdict fieldAt fields readVerdict solveVerdict bytesOf readingsBody fileOf writeVerdict ascii digits each textOf benchText over sum sumℕ firstFrom round
+unfolding table listingRows wide fieldPrime sized occ digitSum plus left right company opposition balanced beta total members restrained numeratorOf denominatorOf along difference deviationOf squaredReadings squaredTotals qOf root spreadHundredths spreadHundredthsOf rank shortfall published offender farReading word wordAt tableOf designVerdict developVerdict initialVerdict judgeVerdict slices contents jobVerdict totalVerdict valuesVerdict valueVerdict readingsVerdict deviationsVerdict deviationVerdict squaredReadingsVerdict squaredTotalsVerdict rooms analyseVerdict big numbersAt fieldVerdict fieldAt fields readVerdict solveVerdict bytesOf readingsBody fileOf writeVerdict ascii digits each textOf benchText over sum sumℕ firstFrom round
 boundaries = refl
 
 -- ---- how near an f64 is, and any set of values

@@ -23,6 +23,7 @@ use Rattle.meaning.specs.Analysis.{
   spreadHundredthsOf,
 }
 use Rattle.meaning.specs.Publishing.{rank, shortfall, published}
+use Rattle.meaning.specs.Wide.{wide}
 use Rattle.meaning.specs.Refusals.{offender, farReading}
 use Rattle.meaning.specs.Calls.{designVerdict, judgeVerdict, slices, contents}
 use Rattle.meaning.specs.File.{big, numbersAt, fieldVerdict, fields, readVerdict}
@@ -103,5 +104,5 @@ table =
     ∷ []
 
 pub examples : every table ≡ true
-unfolding table fieldPrime sized occ digitSum plus left right company opposition balanced beta total members restrained numeratorOf denominatorOf along difference deviationOf squaredReadings squaredTotals qOf root spreadHundredths spreadHundredthsOf rank shortfall published offender farReading designVerdict judgeVerdict slices contents big numbersAt fieldVerdict fields readVerdict ascii digits each textOf sum sumℕ firstFrom
+unfolding table wide fieldPrime sized occ digitSum plus left right company opposition balanced beta total members restrained numeratorOf denominatorOf along difference deviationOf squaredReadings squaredTotals qOf root spreadHundredths spreadHundredthsOf rank shortfall published offender farReading designVerdict judgeVerdict slices contents big numbersAt fieldVerdict fields readVerdict ascii digits each textOf sum sumℕ firstFrom
 examples = refl

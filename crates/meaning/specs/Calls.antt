@@ -31,6 +31,7 @@ use Rattle.meaning.specs.Analysis.{
   freedom,
   spreadHundredthsOf,
 }
+use Rattle.meaning.specs.Wide.{wide, wideZero}
 use Rattle.meaning.specs.Publishing.{published, valueOf, noValue, noSpread, spreadOf}
 use Rattle.meaning.specs.Refusals.{_⨾_, sizes, lengthIs, clean, exists, inBalance, restraint, inReach, room}
 
@@ -164,9 +165,9 @@ abbrev pub deviationAnswer : Head → List ℕ → List ℤ → ℕ → BlockDev
 deviationAnswer h d y k = let verdict = deviationVerdict h d y k in
     record { verdict = verdict; numerator = given verdict (deviationOf h d y k) (pos 0); denominator = given verdict (vbeta h d) 0 }
 
--- a sum of squares under its verdict
+-- a sum of squares under its verdict, in two words
 abbrev pub squareSum : Verdict → ℕ → SquareSum
-squareSum verdict x = record { verdict = verdict; sum = given verdict x 0 }
+squareSum verdict x = record { verdict = verdict; sum = given verdict (wide x) wideZero }
 
 -- the sums of the squared readings and of the squared totals, and Q
 unfoldable pub squaredReadingsVerdict : Head → List ℤ → Verdict
@@ -187,10 +188,10 @@ qAnswer h d y = squareSum (readingsVerdict h d y) (qOf h d y)
 -- the spread, with all that it is made from
 abbrev pub spreadingOf : Head → List ℕ → List ℤ → Spreading
 spreadingOf h d y = let k = spreadHundredthsOf h d y in
-    record { q = qOf h d y; vbeta = vbeta h d; freedom = freedom h; hundredths = k; spread = spreadOf k (freedom h) }
+    record { q = wide (qOf h d y); vbeta = vbeta h d; freedom = freedom h; hundredths = k; spread = spreadOf k (freedom h) }
 
 abbrev pub noSpreading : Spreading
-noSpreading = record { q = 0; vbeta = 0; freedom = 0; hundredths = 0; spread = noSpread }
+noSpreading = record { q = wideZero; vbeta = 0; freedom = 0; hundredths = 0; spread = noSpread }
 
 abbrev pub spreadAnswer : Head → List ℕ → List ℤ → JobSpread
 spreadAnswer h d y = record { verdict = readingsVerdict h d y; spreading = given (readingsVerdict h d y) (spreadingOf h d y) noSpreading }

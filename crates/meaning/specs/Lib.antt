@@ -1,6 +1,7 @@
 -- What a reader of the bench must believe, in reading order.
 pub mod Design
 pub mod Analysis
+pub mod Wide
 pub mod Publishing
 pub mod Fractions
 pub mod Refusals

@@ -43,10 +43,10 @@ Refused k at ⨾ after = refused k at
 
 -- the largest reading, and the largest accepted sum
 abbrev pub readingLimit : ℕ
-readingLimit = 200000
+readingLimit = 200000000
 
 abbrev pub sumLimit : ℕ
-sumLimit = 1000000000
+sumLimit = 1000000000000
 
 -- the byte x names an object of the design: a residue, or ∞ where it takes part
 abbrev pub inRange : Head → ℕ → Bool

@@ -15,8 +15,10 @@ use Rattle.records.specs.declared.Spreading.{Spreading}
 use Rattle.records.specs.declared.Verdict.{Verdict}
 use Rattle.records.specs.declared.Verdict.the-variants.{Accepted, Refused}
 use Rattle.records.specs.declared.Listed.{Listed}
+use Rattle.records.specs.declared.Wide.{Wide}
 use Rattle.meaning.specs.Design.{objects, blocks, parametersOf}
 use Rattle.meaning.specs.Analysis.{numeratorOf, denominatorOf, deviationOf, vbeta}
+use Rattle.meaning.specs.Wide.{value}
 use Rattle.meaning.specs.Publishing.{published}
 use Rattle.meaning.specs.Refusals.{room}
 use Rattle.meaning.specs.Calls.{given, spreadingOf}
@@ -35,6 +37,10 @@ digits (suc s) n = let higher = digits s (n / 10) in cond (ltb n 10) ((48 + n) �
 -- a number of a line, a space before it
 abbrev pub spaced : ℕ → List ℕ
 spaced n = 32 ∷ digits 20 n
+
+-- a number of two words, a space before it
+abbrev pub wideText : Wide → List ℕ
+wideText w = 32 ∷ digits 39 (value w)
 
 -- a number with its sign, a space before it
 abbrev pub signedText : ℤ → List ℕ
@@ -69,7 +75,7 @@ lastWord None k = ascii " none"
 
 -- Q, v·beta, f, k
 abbrev pub spreadLine : Spreading → List ℕ
-spreadLine s = line "spread" (spaced (s .q) ++ spaced (s .vbeta) ++ spaced (s .freedom) ++ lastWord (s .spread) (s .hundredths))
+spreadLine s = line "spread" (wideText (s .q) ++ spaced (s .vbeta) ++ spaced (s .freedom) ++ lastWord (s .spread) (s .hundredths))
 
 -- the listing of an accepted job
 abbrev pub jobText : Head → List ℕ → List ℤ → ℕ → ℤ → List ℕ

@@ -14,6 +14,9 @@ use Rattle.printing.proofs.decimals.put_number.Reads as put-number-read
 use Rattle.printing.proofs.decimals.put_signed as put-signed
 use Rattle.printing.proofs.decimals.put_signed.Kinds as put-signed-kinds
 use Rattle.printing.proofs.decimals.put_signed.Reads as put-signed-reads
+use Rattle.printing.proofs.decimals.put_wide as put-wide
+use Rattle.printing.proofs.decimals.put_wide.Kinds as put-wide-kinds
+use Rattle.printing.proofs.decimals.put_wide.Reads as put-wide-reads
 use Rattle.printing.proofs.put_byte as put-byte
 use Rattle.printing.proofs.put_byte.Kinds as put-byte-kinds
 use Rattle.printing.proofs.put_byte.Reads as put-byte-reads
@@ -42,6 +45,14 @@ module _ (κs : Lfts 1) (a : ArgsD put-signed.signature κs) (r q : ResD put-sig
       (now (s .0) ≡ now (t .0))
       × (r ≡ q)
   put-signed-determined p e = wrote-determines p e
+
+-- `put_wide`: `out`, the place
+module _ (κs : Lfts 1) (a : ArgsD put-wide.signature κs) (r q : ResD put-wide.signature κs)
+    (s t : AtExit (endedOf 1 put-wide-kinds.ps put-wide-kinds.r) κs) where
+  pub put-wide-determined : put-wide-reads.Post κs a r s → put-wide-reads.Post κs a q t →
+      (now (s .0) ≡ now (t .0))
+      × (r ≡ q)
+  put-wide-determined p e = wrote-determines p e
 
 -- `put_byte`: `out`, the place
 module _ (κs : Lfts 1) (a : ArgsD put-byte.signature κs) (r q : ResD put-byte.signature κs)

@@ -1,9 +1,13 @@
 // Numbers in decimal digits put into lent bytes from a place on, each after a space. Each function answers the place after its text; what is past the
 // end is dropped, and counted.
 use crate::put_byte;
+use arithmetic::at_most;
+use arithmetic::divide;
 use arithmetic::size;
+use records::Wide;
 ghost use Rattle.algebra.specs.Buffers.{Wrote};
-ghost use Rattle.meaning.specs.Text.{digits, spaced, signedText};
+ghost use Rattle.meaning.specs.Text.{digits, spaced, wideText, signedText};
+ghost use Rattle.meaning.specs.Wide.{value};
 
 // n in decimal digits, the highest first.
 fn put_digits(out: &mut [u8], at: usize, n: u64) -> usize
@@ -37,4 +41,25 @@ pub fn put_signed(out: &mut [u8], at: usize, x: i64) -> usize
     } else {
         put_number(out, at, magnitude)
     }
+}
+
+// x of two words in decimal digits, the highest first.
+fn put_wide_digits(out: &mut [u8], at: usize, x: Wide) -> usize
+    ensures { λ r. ⌜ Wrote (now (out .entry)) at (digits 39 (value x)) (now (out .exit)) r ⌝ }
+{
+    if at_most(x, Wide { high: 0, low: 9 }) {
+        put_byte(out, at, 48 + x.low as u8)
+    } else {
+        let tenth = divide(x, 10);
+        let next = put_wide_digits(out, at, tenth.quotient);
+        put_byte(out, next, 48 + tenth.rest as u8)
+    }
+}
+
+// A space and x of two words.
+pub fn put_wide(out: &mut [u8], at: usize, x: Wide) -> usize
+    ensures { λ r. ⌜ Wrote (now (out .entry)) at (wideText x) (now (out .exit)) r ⌝ }
+{
+    let first = put_byte(out, at, 32);
+    put_wide_digits(out, first, x)
 }

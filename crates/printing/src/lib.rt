@@ -5,6 +5,7 @@ mod octets;
 
 pub use decimals::put_number;
 pub use decimals::put_signed;
+pub use decimals::put_wide;
 pub use octets::bits;
 pub use octets::put_bytes;
 ghost use mathlib.Core.List.{[], _∷_};

@@ -38,6 +38,12 @@ pub struct Value {
     pub value: f64,
 }
 
+// A number of two words of 64 bits, the high one first: high times 2 to the power 64, and low.
+pub struct Wide {
+    pub high: u64,
+    pub low: u64,
+}
+
 // The spread as an f64 with its degrees of freedom, or none.
 pub enum Spread {
     Of(f64, u64),
@@ -46,7 +52,7 @@ pub enum Spread {
 
 // What a spread is made from: Q, v times beta, the degrees of freedom, and the whole hundredths.
 pub struct Spreading {
-    pub q: u64,
+    pub q: Wide,
     pub vbeta: u64,
     pub freedom: u64,
     pub hundredths: u64,
@@ -81,7 +87,7 @@ pub struct BlockDeviation {
 // The answer of a call for a sum of squares, and for Q.
 pub struct SquareSum {
     pub verdict: Verdict,
-    pub sum: u64,
+    pub sum: Wide,
 }
 
 // The answer of a call for the spread of a job.

@@ -50,13 +50,13 @@ module _ (t : ObjectTotal) (signed : List ℤ) where
   abbrev pub totalSigned : List ℤ
   totalSigned = laid totalCall (t .total ∷ []) signed
 
--- a sum of squares, and Q
+-- a sum of squares, and Q: high, low
 module _ (s : SquareSum) (answer : List ℕ) where
   unfoldable pub sumCall : Verdict
-  sumCall = s .verdict ⨾ room (length answer) 1
+  sumCall = s .verdict ⨾ room (length answer) 2
 
   abbrev pub sumLaid : List ℕ
-  sumLaid = laid sumCall (s .sum ∷ []) answer
+  sumLaid = laid sumCall (s .sum .high ∷ s .sum .low ∷ []) answer
 
 -- the value of one object: numerator, hundredths; denominator; its f64
 module _ (x : ObjectValue) (signed : List ℤ) (answer : List ℕ) (real : List Float) where
@@ -83,10 +83,10 @@ module _ (x : BlockDeviation) (signed : List ℤ) (answer : List ℕ) where
   abbrev pub deviationLaid : List ℕ
   deviationLaid = laid deviationCall (x .denominator ∷ []) answer
 
--- a spread: Q, v·beta, f, hundredths, whether there is a spread; the spread, 0.0 for none
+-- a spread: Q high, Q low, v·beta, f, hundredths, whether there is a spread; the spread, 0.0 for none
 module _ (s : JobSpread) (answer : List ℕ) (real : List Float) where
   unfoldable pub spreadCall : Verdict
-  spreadCall = s .verdict ⨾ room (length answer) 5 ⨾ room (length real) 1
+  spreadCall = s .verdict ⨾ room (length answer) 6 ⨾ room (length real) 1
 
   abbrev pub spreadLaid : List ℕ
   spreadLaid = laid spreadCall (spreadingSlots (s .spreading)) answer
@@ -96,12 +96,12 @@ module _ (s : JobSpread) (answer : List ℕ) (real : List Float) where
 
 -- the slots of a job worked out, against those that are lent: a call that writes into rooms too asks for them before it does
 abbrev pub solvedRoom : ℕ → ℕ → Verdict
-solvedRoom answer real = room answer 12 ⨾ room real 1
+solvedRoom answer real = room answer 13 ⨾ room real 1
 
--- a job worked out: v, b, r, p, L1, L2, denominator, Q, v·beta, f, hundredths, whether there is a spread; the spread, 0.0 for none
+-- a job worked out: v, b, r, p, L1, L2, denominator, Q high, Q low, v·beta, f, hundredths, whether there is a spread; the spread, 0.0 for none
 module _ (s : Solved) (answer : List ℕ) (real : List Float) where
   unfoldable pub solvedCall : Verdict
-  solvedCall = s .verdict ⨾ room (length answer) 12 ⨾ room (length real) 1
+  solvedCall = s .verdict ⨾ room (length answer) 13 ⨾ room (length real) 1
 
   abbrev pub solvedLaid : List ℕ
   solvedLaid = laid solvedCall (solvedSlots s) answer

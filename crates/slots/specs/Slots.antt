@@ -17,9 +17,9 @@ abbrev pub hasSpread : Spread → ℕ
 hasSpread (Of x f) = 1
 hasSpread None = 0
 
--- what a spread is made from: Q, v·beta, f, hundredths, whether there is a spread
+-- what a spread is made from: Q in two words, high first, v·beta, f, hundredths, whether there is a spread
 abbrev pub spreadingSlots : Spreading → List ℕ
-spreadingSlots t = t .q ∷ t .vbeta ∷ t .freedom ∷ t .hundredths ∷ hasSpread (t .spread) ∷ []
+spreadingSlots t = t .q .high ∷ t .q .low ∷ t .vbeta ∷ t .freedom ∷ t .hundredths ∷ hasSpread (t .spread) ∷ []
 
 -- a job worked out: the parameters, the denominator of every value, what the spread is made from
 abbrev pub solvedSlots : Solved → List ℕ

@@ -23,12 +23,14 @@ pub(crate) fn parameter_slots(parameters: Parameters) -> [u64; 6]
 }
 
 // What a spread is made from.
-pub(crate) fn spreading_slots(spreading: Spreading) -> [u64; 5]
+pub(crate) fn spreading_slots(spreading: Spreading) -> [u64; 6]
     ensures { λ r. ⌜ r ≡ spreadingSlots spreading ⌝ }
 {
     let spread = spreading.spread;
+    let q = spreading.q;
     [
-        spreading.q,
+        q.high,
+        q.low,
         spreading.vbeta,
         spreading.freedom,
         spreading.hundredths,
@@ -37,12 +39,13 @@ pub(crate) fn spreading_slots(spreading: Spreading) -> [u64; 5]
 }
 
 // A job worked out.
-pub(crate) fn solved_slots(solved: Solved) -> [u64; 12]
+pub(crate) fn solved_slots(solved: Solved) -> [u64; 13]
     ensures { λ r. ⌜ r ≡ solvedSlots solved ⌝ }
 {
     let design = solved.parameters;
     let measured = solved.spreading;
     let spread = measured.spread;
+    let q = measured.q;
     [
         design.v,
         design.b,
@@ -51,7 +54,8 @@ pub(crate) fn solved_slots(solved: Solved) -> [u64; 12]
         design.l1,
         design.l2,
         solved.denominator,
-        measured.q,
+        q.high,
+        q.low,
         measured.vbeta,
         measured.freedom,
         measured.hundredths,

@@ -31,14 +31,15 @@ pub fn lay_total(found: ObjectTotal, signed: &mut [i64]) -> u64
     told(verdict)
 }
 
-// A sum of squares, and Q.
+// A sum of squares, and Q, the high word first.
 pub fn lay_sum(found: SquareSum, answer: &mut [u64]) -> u64
     ensures { λ r. ⌜ r ≡ told (sumCall found (now (answer .entry))) ⌝ }
     ensures { λ _. ⌜ now (answer .exit) ≡ sumLaid found (now (answer .entry)) ⌝ }
 {
     let tested = found.verdict;
-    let verdict = with_room(tested, answer.len(), 1);
-    let slots = [found.sum];
+    let verdict = with_room(tested, answer.len(), 2);
+    let sum = found.sum;
+    let slots = [sum.high, sum.low];
     lay(verdict, &slots, answer);
     told(verdict)
 }
@@ -94,7 +95,7 @@ pub fn lay_spread(found: JobSpread, answer: &mut [u64], real: &mut [f64]) -> u64
     let tested = found.verdict;
     let spreading = found.spreading;
     let spread = spreading.spread;
-    let answer_tested = with_room(tested, answer.len(), 5);
+    let answer_tested = with_room(tested, answer.len(), 6);
     let verdict = with_room(answer_tested, real.len(), 1);
     let slots = spreading_slots(spreading);
     lay(verdict, &slots, answer);
@@ -112,7 +113,7 @@ pub fn lay_solved(solved: Solved, answer: &mut [u64], real: &mut [f64]) -> u64
     let tested = solved.verdict;
     let spreading = solved.spreading;
     let spread = spreading.spread;
-    let answer_tested = with_room(tested, answer.len(), 12);
+    let answer_tested = with_room(tested, answer.len(), 13);
     let verdict = with_room(answer_tested, real.len(), 1);
     let slots = solved_slots(solved);
     lay(verdict, &slots, answer);

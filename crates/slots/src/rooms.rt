@@ -21,6 +21,6 @@ pub fn with_room(verdict: Verdict, length: usize, want: usize) -> Verdict
 pub fn solved_room(answer: usize, real: usize) -> Verdict
     ensures { λ r. ⌜ r ≡ solvedRoom answer real ⌝ }
 {
-    let answer_tested = with_room(Verdict::Accepted, answer, 12);
+    let answer_tested = with_room(Verdict::Accepted, answer, 13);
     with_room(answer_tested, real, 1)
 }

@@ -5,11 +5,14 @@ use Prim.Native.Nat.{ℕ}
 use Rattle.records.specs.declared.Verdict.{Verdict}
 use Rattle.records.specs.declared.Verdict.the-variants.{Accepted, Refused}
 use Rattle.records.specs.declared.SquareSum.{SquareSum}
+use Rattle.records.specs.declared.Wide.{Wide}
+use Rattle.meaning.specs.Wide.{wide, wideZero}
 use Rattle.meaning.specs.Refusals.{accepted}
 use Rattle.meaning.specs.Calls.{given, squareSum}
 
 -- a sum of 0, whatever the verdict
-pub square-none : (v : Verdict) → _≡_ {A = SquareSum} (record { verdict = v; sum = 0 }) (squareSum v 0)
+pub square-none : (v : Verdict) → _≡_ {A = SquareSum} (record { verdict = v; sum = wideZero }) (squareSum v 0)
+unfolding wide
 square-none Accepted = refl
 square-none (Refused k at) = refl
 
@@ -19,6 +22,6 @@ square-refused verdict x Accepted r e = absurd (false≢true r)
 square-refused verdict x (Refused k at) r e = sym (ap (λ (v : Verdict). squareSum v x) e)
 
 -- an acceptance holds the sum
-pub square-accepted : (verdict : Verdict) (x y : ℕ) → verdict ≡ accepted → y ≡ x →
+pub square-accepted : (verdict : Verdict) (x : ℕ) (y : Wide) → verdict ≡ accepted → y ≡ wide x →
     _≡_ {A = SquareSum} (record { verdict = accepted; sum = y }) (squareSum verdict x)
-square-accepted verdict x y e f = ap (λ (z : ℕ). squareSum accepted z) f ∙ sym (ap (λ (v : Verdict). squareSum v x) e)
+square-accepted verdict x y e f = ap (λ (z : Wide). record { verdict = accepted; sum = z }) f ∙ sym (ap (λ (v : Verdict). squareSum v x) e)

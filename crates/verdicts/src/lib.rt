@@ -12,6 +12,7 @@ use records::Spreading;
 use records::SquareSum;
 use records::Value;
 use records::Verdict;
+use records::Wide;
 ghost use mathlib.Core.Path.{_≡_};
 ghost use mathlib.Core.Bool.{true, false};
 ghost use Rattle.meaning.specs.Refusals.{_⨾_};
@@ -55,7 +56,7 @@ pub fn no_solution(refusal: Verdict) -> Solved
 {
     let parameters = no_parameters();
     let spreading = Spreading {
-        q: 0,
+        q: Wide { high: 0, low: 0 },
         vbeta: 0,
         freedom: 0,
         hundredths: 0,
@@ -80,7 +81,8 @@ pub fn no_total(verdict: Verdict) -> ObjectTotal
 pub fn no_sum(verdict: Verdict) -> SquareSum
     ensures { λ r. ⌜ r ≡ squareSum verdict 0 ⌝ }
 {
-    SquareSum { verdict, sum: 0 }
+    let sum = Wide { high: 0, low: 0 };
+    SquareSum { verdict, sum }
 }
 
 // What a refused value hands back.

@@ -1,15 +1,18 @@
 // The totals from the words of the blocks: the readings are walked once, each added to the objects of its own block.
 use crate::weighable::weighing_refusal;
+use arithmetic::add_square;
+use arithmetic::size;
 use design::objects;
 use records::Head;
 use records::SquareSum;
 use records::Verdict;
+use records::Wide;
 use verdicts::is_refused;
 use verdicts::no_sum;
 use words::lowest;
 use words::without_lowest;
 ghost use mathlib.Core.Path.{_≡_};
-ghost use Prim.Native.Nat.{ℕ, _+_, _*_, _<_, _≤_};
+ghost use Prim.Native.Nat.{_+_, _*_, _<_, _≤_};
 ghost use lib.IntN.{pos, natAbs};
 ghost use lib.ListN.{length, getD};
 ghost use Rattle.algebra.specs.Ranges.{sumℕ};
@@ -17,6 +20,7 @@ ghost use Rattle.algebra.specs.Buffers.{over};
 ghost use Rattle.laws.specs.Limits.{totalLimit};
 ghost use Rattle.meaning.specs.Analysis.{reading};
 ghost use Rattle.meaning.specs.Refusals.{readingLimit};
+ghost use Rattle.meaning.specs.Wide.{wide};
 ghost use Rattle.weighing.specs.Verdicts.{weighAnswer, weighAfter};
 ghost use Rattle.weighing.specs.Developed.{totalIn, added, blockAdded, Weighed, Within, Room};
 
@@ -96,17 +100,15 @@ fn add_to(word: u64, y: i64, totals: &mut [i64])
 }
 
 // The sum of the squares of the first v totals.
-fn squared_totals(totals: &[i64], v: usize) -> u64
-    requires { ⌜ (v ≤ 50) × (v ≤ length (now totals)) ⌝ }
-    requires { ⌜ ((i : ℕ) → i < v → natAbs (getD (now totals) i (pos 0)) ≤ totalLimit) ⌝ }
-    ensures { λ r. ⌜ r ≡ sumℕ v (λ i. natAbs (getD (now (totals .entry)) i (pos 0)) * natAbs (getD (now (totals .entry)) i (pos 0))) ⌝ }
+fn squared_totals(totals: &[i64], v: usize) -> Wide
+    requires { ⌜ v ≤ length (now totals) ⌝ }
+    ensures { λ r. ⌜ r ≡ wide (sumℕ v (λ i. natAbs (getD (now (totals .entry)) i (pos 0)) * natAbs (getD (now (totals .entry)) i (pos 0)))) ⌝ }
 {
-    let mut sum: u64 = 0;
+    let mut sum = Wide { high: 0, low: 0 };
     let mut i = 0;
     while i < v {
         let total = totals[i];
-        let square = total * total;
-        sum += square as u64;
+        sum = add_square(sum, size(total));
         i += 1;
     }
     sum

@@ -11,7 +11,7 @@ ghost use Rattle.meaning.specs.Refusals.{_⨾_, clean, readingLimit, farReading
 ghost use Rattle.meaning.specs.Calls.{slices};
 
 // The largest reading, on either side of 0.
-const READING_LIMIT: i32 = 200000;
+const READING_LIMIT: i32 = 200000000;
 
 // The sizes, then the length of the block list, then the number of readings.
 pub fn slices_refusal(head: Head, blocks: &[u8], readings: &[i32]) -> Verdict

@@ -170,7 +170,7 @@ pub struct Spread {
 /// The spread with what it is made from.
 #[derive(Debug, Clone, Copy, PartialEq)]
 pub struct Spreading {
-    pub q: u64,
+    pub q: u128,
     /// The denominator of every deviation.
     pub vbeta: u64,
     pub freedom: u64,
@@ -332,11 +332,11 @@ pub fn total(head: Head, blocks: &[u8], readings: &[i32], object: usize) -> Resu
 /// # use mass_bench::{sum_of_squares, Head};
 /// assert_eq!(sum_of_squares(Head { n: 5, flag: 0, p: 2, m: 1 }, &[11, -3, 4, 1, -8]), Ok(211));
 /// ```
-pub fn sum_of_squares(head: Head, readings: &[i32]) -> Result<u64, Refusal> {
+pub fn sum_of_squares(head: Head, readings: &[i32]) -> Result<u128, Refusal> {
     let Head { n, flag, p, m } = head;
-    let mut answer = [0];
+    let mut answer = [0; 2];
     refusal_in(calls::sum_of_squares(n, flag, p, m, readings, &mut answer))?;
-    Ok(answer[0])
+    Ok(wide(answer))
 }
 
 /// The sum of the squared totals. Balance is not asked.
@@ -345,11 +345,11 @@ pub fn sum_of_squares(head: Head, readings: &[i32]) -> Result<u64, Refusal> {
 /// # use mass_bench::{sum_of_squared_totals, Head};
 /// assert_eq!(sum_of_squared_totals(Head { n: 5, flag: 0, p: 2, m: 1 }, &[1, 4, 2, 3], &[11, -3, 4, 1, -8]), Ok(1030));
 /// ```
-pub fn sum_of_squared_totals(head: Head, blocks: &[u8], readings: &[i32]) -> Result<u64, Refusal> {
+pub fn sum_of_squared_totals(head: Head, blocks: &[u8], readings: &[i32]) -> Result<u128, Refusal> {
     let Head { n, flag, p, m } = head;
-    let mut answer = [0];
+    let mut answer = [0; 2];
     refusal_in(calls::sum_of_squared_totals(n, flag, p, m, blocks, readings, &mut answer))?;
-    Ok(answer[0])
+    Ok(wide(answer))
 }
 
 /// Whether a whole job is accepted.
@@ -451,11 +451,11 @@ pub fn deviation_of(head: Head, blocks: &[u8], readings: &[i32], block: usize) -
 /// # use mass_bench::{q, Head};
 /// assert_eq!(q(Head { n: 5, flag: 0, p: 2, m: 1 }, &[1, 4, 2, 3], &[11, -3, 4, 1, -8]), Ok(25));
 /// ```
-pub fn q(head: Head, blocks: &[u8], readings: &[i32]) -> Result<u64, Refusal> {
+pub fn q(head: Head, blocks: &[u8], readings: &[i32]) -> Result<u128, Refusal> {
     let Head { n, flag, p, m } = head;
-    let mut answer = [0];
+    let mut answer = [0; 2];
     refusal_in(calls::q(n, flag, p, m, blocks, readings, &mut answer))?;
-    Ok(answer[0])
+    Ok(wide(answer))
 }
 
 /// The spread, with what it is made from.
@@ -469,7 +469,7 @@ pub fn q(head: Head, blocks: &[u8], readings: &[i32]) -> Result<u64, Refusal> {
 /// ```
 pub fn spread(head: Head, blocks: &[u8], readings: &[i32]) -> Result<Spreading, Refusal> {
     let Head { n, flag, p, m } = head;
-    let (mut answer, mut real) = ([0; 5], [0.0]);
+    let (mut answer, mut real) = ([0; 6], [0.0]);
     refusal_in(calls::spread(n, flag, p, m, blocks, readings, &mut answer, &mut real))?;
     Ok(spreading(answer, real))
 }
@@ -558,19 +558,25 @@ fn parameters([v, b, r, p, l1, l2]: [u64; 6]) -> Parameters {
     Parameters { v, b, r, p, l1, l2 }
 }
 
-fn spreading([q, vbeta, freedom, hundredths, has_spread]: [u64; 5], [value]: [f64; 1]) -> Spreading {
-    Spreading { q, vbeta, freedom, spread: (has_spread == 1).then_some(Spread { hundredths, value }) }
+// A number of two words.
+fn wide([high, low]: [u64; 2]) -> u128 {
+    u128::from(high) << 64 | u128::from(low)
+}
+
+fn spreading([high, low, vbeta, freedom, hundredths, has_spread]: [u64; 6], [value]: [f64; 1]) -> Spreading {
+    Spreading { q: wide([high, low]), vbeta, freedom, spread: (has_spread == 1).then_some(Spread { hundredths, value }) }
 }
 
 // A job worked out by a call that lays it into rooms and slots.
 fn worked_out(call: impl FnOnce(&mut [u64], &mut [i64], &mut [i64], &mut [u64], &mut [f64]) -> u64) -> Result<Job, Refusal> {
     let (mut words, mut values, mut deviations) = (vec![0; WORDS], vec![0; VALUES], vec![0; DEVIATIONS]);
-    let (mut answer, mut real) = ([0; 12], [0.0]);
+    let (mut answer, mut real) = ([0; 13], [0.0]);
     refusal_in(call(&mut words, &mut values, &mut deviations, &mut answer, &mut real))?;
-    let [v, b, r, p, l1, l2, denominator, q, vbeta, freedom, hundredths, has_spread] = answer;
+    let [v, b, r, p, l1, l2, denominator, high, low, vbeta, freedom, hundredths, has_spread] = answer;
     words.truncate(2 * b as usize);
     values.truncate(v as usize);
     deviations.truncate(b as usize);
-    let solved = Solved { parameters: parameters([v, b, r, p, l1, l2]), denominator, spreading: spreading([q, vbeta, freedom, hundredths, has_spread], real) };
+    let spreading = spreading([high, low, vbeta, freedom, hundredths, has_spread], real);
+    let solved = Solved { parameters: parameters([v, b, r, p, l1, l2]), denominator, spreading };
     Ok(Job { solved, words, values, deviations })
 }

@@ -78,17 +78,33 @@ fn totals_and_squares_are_summed() {
     assert_eq!(totals, [-16, 22, -5, -12, 11]);
     assert_eq!(total(A, &BLOCKS, &READINGS, 5), refused(Reason::BadObject, 5));
     assert_eq!(sum_of_squares(A, &READINGS), Ok(211));
-    assert_eq!(sum_of_squares(A, &[0, 0, 200_001, 0, 0]), refused(Reason::BadReading, 2));
+    assert_eq!(sum_of_squares(A, &[0, 0, 200_000_001, 0, 0]), refused(Reason::BadReading, 2));
     assert_eq!(sum_of_squared_totals(A, &BLOCKS, &READINGS), Ok(1030));
     assert_eq!(sum_of_squared_totals(A, &BLOCKS, &[]), refused(Reason::WrongLength, 0));
     assert!(sum_of_squared_totals(C, &[0, 1], &[0; 4]).is_ok());
 }
 
 #[test]
+fn sums_and_q_pass_a_word() {
+    // three objects opposed nine times over: all readings alike, so that every total is 0; and readings whose totals differ
+    let (nine, blocks) = (Head { n: 3, flag: 0, p: 1, m: 9 }, [0, 1].repeat(9));
+    let alike = [200_000_000; 27];
+    assert_eq!(sum_of_squares(nine, &alike), Ok(1_080_000_000_000_000_000));
+    assert_eq!(q(nine, &blocks, &alike), Ok(29_160_000_000_000_000_000));
+    let turns = [200_000_000, -200_000_000, 0].repeat(9);
+    assert_eq!(sum_of_squared_totals(nine, &blocks, &turns), Ok(19_440_000_000_000_000_000));
+    let measured = spread(nine, &blocks, &alike).unwrap();
+    assert_eq!((measured.q, measured.spread.unwrap().hundredths), (29_160_000_000_000_000_000, 20_784_609_690));
+    let mut answer = [WORD; 3];
+    assert_eq!(calls::q(3, 0, 1, 9, &blocks, &alike, &mut answer), 0);
+    assert_eq!(answer, [1, 10_713_255_926_290_448_384, WORD]);
+}
+
+#[test]
 fn jobs_are_refused_or_not() {
     assert_eq!(refusal(A, &BLOCKS, &READINGS, SET, SUM), Ok(()));
     assert_eq!(refusal(A, &BLOCKS, &READINGS, 32, SUM), refused(Reason::BadRestraint, 0));
-    assert_eq!(refusal(A, &BLOCKS, &READINGS, SET, 1_000_000_001), refused(Reason::BadRestraint, 0));
+    assert_eq!(refusal(A, &BLOCKS, &READINGS, SET, 1_000_000_000_001), refused(Reason::BadRestraint, 0));
     assert_eq!(refusal(C, &[0, 1], &[0; 4], 0, SUM), refused(Reason::Unbalanced, 0));
 }
 
@@ -156,7 +172,7 @@ fn deviations_and_spread_are_worked_out() {
     assert_eq!(deviation_of(A, &BLOCKS, &READINGS, 4), Ok(Deviation { numerator: 5, denominator: 5 }));
     assert_eq!(deviation_of(A, &BLOCKS, &READINGS, 5), refused(Reason::BadObject, 5));
     assert_eq!(q(A, &BLOCKS, &READINGS), Ok(25));
-    assert_eq!(q(A, &BLOCKS, &[0, -200_001, 0, 0, 0]), refused(Reason::BadReading, 1));
+    assert_eq!(q(A, &BLOCKS, &[0, -200_000_001, 0, 0, 0]), refused(Reason::BadReading, 1));
     let a = Spreading { q: 25, vbeta: 5, freedom: 1, spread: Some(Spread { hundredths: 223, value: 2.23 }) };
     assert_eq!(spread(A, &BLOCKS, &READINGS), Ok(a));
     assert_eq!(spread(C, &[0, 1], &[0; 4]), refused(Reason::Unbalanced, 0));
@@ -172,7 +188,7 @@ fn jobs_are_analysed() {
     assert_eq!((a.deviations, a.solved.spreading.vbeta), (vec![5; 5], 5));
     assert_eq!((a.words.len(), a.words[0], a.words[1]), (10, 0b10010, 0b01100));
     assert_eq!(a.solved.parameters, judge(A, &BLOCKS).unwrap());
-    assert_eq!(analyse(A, &BLOCKS, &[0, 0, 0, 0, 200_001], SET, SUM), refused(Reason::BadReading, 4));
+    assert_eq!(analyse(A, &BLOCKS, &[0, 0, 0, 0, 200_000_001], SET, SUM), refused(Reason::BadReading, 4));
 }
 
 // ---- files
@@ -203,19 +219,19 @@ fn files_are_read_and_solved() {
 #[test]
 fn files_are_written() {
     assert_eq!(write(A, &BLOCKS, SET, SUM, &READINGS), Ok(example("A.job")));
-    let readings = [200_000, -200_000, 0, 1, -1];
-    let file = write(A, &BLOCKS, 0b10001, -1_000_000_000, &readings).unwrap();
+    let readings = [200_000_000, -200_000_000, 0, 1, -1];
+    let file = write(A, &BLOCKS, 0b10001, -1_000_000_000_000, &readings).unwrap();
     let mut expected = vec![1, 0, 4, 5, 0, 2, 1, 2, 0, 4, 1, 4, 2, 3, 3, 0, 16];
     expected.extend(0b10001u64.to_be_bytes());
-    expected.extend((-1_000_000_000i64).to_be_bytes());
+    expected.extend((-1_000_000_000_000i64).to_be_bytes());
     expected.extend([4, 0, 20]);
     expected.extend(readings.iter().flat_map(|reading: &i32| reading.to_be_bytes()));
     assert_eq!(file, expected);
-    assert_eq!(read(&file), Ok(JobRead { head: A, blocks_at: 10, readings_at: 36, set: 0b10001, sum: -1_000_000_000 }));
+    assert_eq!(read(&file), Ok(JobRead { head: A, blocks_at: 10, readings_at: 36, set: 0b10001, sum: -1_000_000_000_000 }));
     // the restrained objects 0 and 4 add to M
     let job = solve(&file).unwrap();
     assert_eq!(job.solved.denominator, 10);
-    assert_eq!(job.values[0] + job.values[4], -1_000_000_000 * 10);
+    assert_eq!(job.values[0] + job.values[4], -1_000_000_000_000 * 10);
 }
 
 #[test]
@@ -225,8 +241,8 @@ fn jobs_that_are_read_as_bad_are_not_written() {
     assert_eq!(write(A, &[1, 4, 2, 9], 3, 7, &[]), refused(Reason::WrongLength, 0));
     assert_eq!(write(A, &[1, 4, 2, 4], 0, 7, &READINGS), refused(Reason::BadObject, 3));
     assert_eq!(write(A, &[1, 4, 2, 0], 0, 7, &READINGS), refused(Reason::Unbalanced, 0));
-    assert_eq!(write(A, &BLOCKS, 32, 7, &[200_001; 5]), refused(Reason::BadRestraint, 0));
-    assert_eq!(write(A, &BLOCKS, 3, 7, &[0, 0, -200_001, 0, 200_001]), refused(Reason::BadReading, 2));
+    assert_eq!(write(A, &BLOCKS, 32, 7, &[200_000_001; 5]), refused(Reason::BadRestraint, 0));
+    assert_eq!(write(A, &BLOCKS, 3, 7, &[0, 0, -200_000_001, 0, 200_000_001]), refused(Reason::BadReading, 2));
 }
 
 #[test]
@@ -313,13 +329,13 @@ fn rooms_and_slots_of_jobs() {
     let Head { n, flag, p, m } = A;
     let (b, y) = (&BLOCKS[..], &READINGS[..]);
     lent("total", SIGNED, &[22], |signed| calls::total(n, flag, p, m, b, y, 1, signed));
-    lent("sum_of_squares", WORD, &[211], |answer| calls::sum_of_squares(n, flag, p, m, y, answer));
-    lent("sum_of_squared_totals", WORD, &[1030], |answer| calls::sum_of_squared_totals(n, flag, p, m, b, y, answer));
+    lent("sum_of_squares", WORD, &[0, 211], |answer| calls::sum_of_squares(n, flag, p, m, y, answer));
+    lent("sum_of_squared_totals", WORD, &[0, 1030], |answer| calls::sum_of_squared_totals(n, flag, p, m, b, y, answer));
     lent("values", SIGNED, &[-3, 73, 19, 5, 51], |values| calls::values(n, flag, p, m, b, y, SET, SUM, values));
     lent("published", SIGNED, &[-30, 730, 190, 50, 510], |hundredths| calls::published(n, flag, p, m, b, y, SET, SUM, hundredths));
     lent("deviations", SIGNED, &[5; 5], |deviations| calls::deviations(n, flag, p, m, b, y, deviations));
-    lent("q", WORD, &[25], |answer| calls::q(n, flag, p, m, b, y, answer));
-    let far = [0, 0, 0, 200_001, 0];
+    lent("q", WORD, &[0, 25], |answer| calls::q(n, flag, p, m, b, y, answer));
+    let far = [0, 0, 0, 200_000_001, 0];
     stays("total", SIGNED, 5, 5, |signed| calls::total(n, flag, p, m, b, &far, 5, signed));
     stays("sum_of_squares", WORD, 8, 3, |answer| calls::sum_of_squares(n, flag, p, m, &far, answer));
     stays("sum_of_squared_totals", WORD, 8, 3, |answer| calls::sum_of_squared_totals(n, flag, p, m, b, &far, answer));
@@ -392,7 +408,7 @@ fn slots_of_several_kinds() {
     );
     slots(
         "spread",
-        (vec![], vec![25, 5, 1, 223, 1], vec![2.23]),
+        (vec![], vec![0, 25, 5, 1, 223, 1], vec![2.23]),
         |_, answer, real| calls::spread(n, flag, p, m, b, y, answer, real),
         6,
         |_, answer, real| calls::spread(4, 0, 1, 1, &[0, 1], &[0; 4], answer, real),
@@ -443,12 +459,12 @@ type Working<'a> = &'a dyn Fn(&mut [u64], &mut [i64], &mut [i64], &mut [u64], &m
 fn rooms_and_slots_of_a_job_worked_out() {
     let Head { n, flag, p, m } = A;
     let a = example("A.job");
-    let far = [0, 0, 0, 0, 200_001];
+    let far = [0, 0, 0, 0, 200_000_001];
     let analyse: Working = &|w, v, d, answer, real| calls::analyse(n, flag, p, m, &BLOCKS, &READINGS, SET, SUM, w, v, d, answer, real);
     let solve: Working = &|w, v, d, answer, real| calls::solve(&a, w, v, d, answer, real);
     let analyse_far: Working = &|w, v, d, answer, real| calls::analyse(n, flag, p, m, &BLOCKS, &far, SET, SUM, w, v, d, answer, real);
     let solve_cut: Working = &|w, v, d, answer, real| calls::solve(&a[..55], w, v, d, answer, real);
-    const EXACT: [usize; 5] = [10, 5, 5, 12, 1];
+    const EXACT: [usize; 5] = [10, 5, 5, 13, 1];
     let lend = |lengths: [usize; 5], call: Working| {
         let mut lent = Lent::new(lengths);
         let returned = call(&mut lent.words, &mut lent.values, &mut lent.deviations, &mut lent.answer, &mut lent.real);
@@ -460,8 +476,8 @@ fn rooms_and_slots_of_a_job_worked_out() {
             assert_eq!(returned, 0, "{about}");
             assert_eq!(lent.words[..10], develop(A, &BLOCKS).unwrap(), "{about}");
             assert_eq!((&lent.values[..5], &lent.deviations[..5]), (&[-3, 73, 19, 5, 51][..], &[5; 5][..]), "{about}");
-            assert_eq!((&lent.answer[..12], &lent.real[..1]), (&[5, 5, 4, 2, 1, 2, 10, 25, 5, 1, 223, 1][..], &[2.23][..]), "{about}");
-            assert_eq!((&lent.words[10..], &lent.answer[12..]), (&vec![WORD; more][..], &vec![WORD; more][..]), "{about}");
+            assert_eq!((&lent.answer[..13], &lent.real[..1]), (&[5, 5, 4, 2, 1, 2, 10, 0, 25, 5, 1, 223, 1][..], &[2.23][..]), "{about}");
+            assert_eq!((&lent.words[10..], &lent.answer[13..]), (&vec![WORD; more][..], &vec![WORD; more][..]), "{about}");
             assert_eq!((&lent.values[5..], &lent.deviations[5..]), (&vec![SIGNED; more][..], &vec![SIGNED; more][..]), "{about}");
             assert_eq!(&lent.real[1..], &vec![REAL; more][..], "{about}");
         }

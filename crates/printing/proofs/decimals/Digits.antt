@@ -1,4 +1,4 @@
--- The digits of a number of 64 bits: one digit, or those of its tenth and one more. Assumes nothing.
+-- The digits of a number: one digit, or those of its tenth and one more. Assumes nothing.
 use mathlib.Core.Path.{_≡_, refl, ap}
 use mathlib.Core.Bool.{Bool, true, false, cond}
 use mathlib.Core.List.{List, [], _∷_, _++_}
@@ -25,14 +25,14 @@ one-more-place zero n h = same-tenth zero 1 n (λ l. absurd (omega arith))
 one-more-place (suc s) n h = same-tenth (suc s) (suc (suc s)) n (λ l. one-more-place s (n / 10) (div-lt-iff-lt-mul (lit< tt) .1 (rw pow-suc at h)))
 
 -- below 10 it is one digit
-pub digits-one : (n : ℕ) → n < 10 → digits 20 n ≡ (48 + n) ∷ []
+pub digits-one : (s n : ℕ) → n < 10 → digits (suc s) n ≡ (48 + n) ∷ []
 unfolding digits
-digits-one n h = rw (lt-ltb n 10 h)
+digits-one s n h = rw (lt-ltb n 10 h)
 
-digits-split : (n : ℕ) → 10 ≤ n → digits 20 n ≡ digits 19 (n / 10) ++ ((48 + n % 10) ∷ [])
+digits-split : (s n : ℕ) → 10 ≤ n → digits (suc s) n ≡ digits s (n / 10) ++ ((48 + n % 10) ∷ [])
 unfolding digits
-digits-split n h = rw (le-ltb n 10 h)
+digits-split s n h = rw (le-ltb n 10 h)
 
 -- from 10 on, the digits of the tenth and then the last one
-pub digits-more : (n : ℕ) → 10 ≤ n → n < 2 ^ 64 → digits 20 n ≡ digits 20 (n / 10) ++ ((48 + n % 10) ∷ [])
-digits-more n h l = rw (digits-split n h, one-more-place 18 (n / 10) (omega arith))
+pub digits-more : (s n : ℕ) → 10 ≤ n → n / 10 < 10 ^ suc s → digits (suc (suc s)) n ≡ digits (suc (suc s)) (n / 10) ++ ((48 + n % 10) ∷ [])
+digits-more s n h l = rw (digits-split (suc s) n h, one-more-place s (n / 10) l)

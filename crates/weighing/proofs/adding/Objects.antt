@@ -55,7 +55,8 @@ module _ (w : ℕ) (y : ℤ) where
         back = ring₂ (λ t u. t ⊕ u ⊝ u ≐ t) t (pos (member w i) *ℤ y) refl
 
     -- so within the walk a total is at most two readings larger than it was
-    pub walk-most : (rest : ℕ) (now l : List ℤ) (i : ℕ) → walked rest (more w y) now ≡ walked w (more w y) l → natAbs (at now i) ≤ natAbs (at l i) + 400000
+    pub walk-most : (rest : ℕ) (now l : List ℤ) (i : ℕ) → walked rest (more w y) now ≡ walked w (more w y) l →
+        natAbs (at now i) ≤ natAbs (at l i) + 2 * readingLimit
     walk-most rest now l i e =
         let (a, b) = walk-near Near (λ t. (omega arith, omega arith)) (more w y) more-near rest w now l (pos 0) i e in
         omega (arith, a .0, b .1)

@@ -1,22 +1,22 @@
 -- `fill_deviations`: the first k entries are deviation numerators, the later ones are as they were, and `squares` is the squares of the first k
 -- readings. Assumes nothing.
-use mathlib.Core.Path.{_≡_, refl, sym, ap, ap₂, _∙_}
-use mathlib.Core.List.{List}
+use Rattle.laws.specs.Limits.{totalLimit}
+use borrow.Author.Needs.{needs}
+use mathlib.Core.Path.{_≡_, refl, ap, _∙_}
 use Prim.Native.Nat.{ℕ, _+_, _-_, _*_, _≤_, _<_}
 use native.Mathlib.Omega.{arith}
 use denote.Ref.{now}
 use lib.Dec.{lit<}
 use lib.IntN.{ℤ, pos, natAbs}
 use lib.ListN.{getD, length, length-set}
-use mir.Syntax.{w32, w64}
-use mir.Val.{SFits, toZ}
+use mir.Syntax.{w32}
+use mir.Val.{SFits}
 use Rattle.algebra.specs.Buffers.{over}
 use Rattle.algebra.proofs.Filling.{over-none, over-step, over-end}
-use Rattle.algebra.proofs.Numbers.{Num, called, unsigned, widened, widened-fits, small-fits, minus, minus-fits, times, times-fits, cast-fits}
-use Rattle.algebra.proofs.Order.{sq-nonneg}
-use Rattle.algebra.proofs.Sums.{sumℕ-none}
+use Rattle.algebra.proofs.Numbers.{Num, called, unsigned, widened, widened-fits, small-fits, minus, minus-fits, times, times-fits}
 use Rattle.meaning.specs.Analysis.{reading}
-use Rattle.weighing.proofs.SquareSums.{squares-most, squares-more, square-cast}
+use Rattle.meaning.specs.Wide.{wide}
+use Rattle.weighing.proofs.SquareSums.{squares-none, squares-more}
 use Rattle.analysis.specs.Worked.{totalAt, squaresIn, Held, deviationIn}
 use Rattle.analysis.proofs.Working.{fitted-small}
 use Rattle.analysis.proofs.deviations.fill_deviations.Statement.{statement}
@@ -25,7 +25,7 @@ use Rattle.analysis.proofs.deviations.fill_deviations.Tie as tie
 
 abbrev Inv-loop : tie.InvT-loop
 Inv-loop words readings totals b vbeta deviations₀ scale squares₀ k₀ deviations squares k =
-    (k ≤ b) × (squares ≡ squaresIn readings k) × (deviations ≡ over k (deviationIn words readings (totalAt totals) vbeta) deviations₀) ×
+    (k ≤ b) × (squares ≡ wide (squaresIn readings k)) × (deviations ≡ over k (deviationIn words readings (totalAt totals) vbeta) deviations₀) ×
     (length deviations ≡ length deviations₀)
 
 abbrev μ-loop : tie.MeasureT-loop
@@ -62,39 +62,37 @@ module _ (c : tie.After-y Inv-loop μ-loop) where
 
 -- and what it computes
 module _ (c : tie.After-fitted Inv-loop μ-loop) where
+  abbrev at : tie.After-y Inv-loop μ-loop
+  at = c .before .before .before
+
   abbrev fit : Num
-  fit = called (c .fitted .result) 33280000000 (c .fitted .ensures)
-      (fitted-small (now (start (c .before) .args .words)) (now (start (c .before) .args .totals)) (k (c .before)) (left-held (c .before))
-      (right-held (c .before))) (lit< tt)
+  fit = called (c .fitted .result) (128 * totalLimit) (c .fitted .ensures)
+      (fitted-small (now (start at .args .words)) (now (start at .args .totals)) (k at) (left-held at) (right-held at)) (lit< tt)
 
   abbrev all : Num
-  all = minus (product (c .before)) fit (lit< tt)
+  all = minus (product at) fit (lit< tt)
 
 -- the squares so far, and with this reading
-module _ (c : tie.After-y Inv-loop μ-loop) where
-  abbrev ys : List ℤ
-  ys = now (start c .args .readings)
+module _ (c : tie.After-add-square Inv-loop μ-loop) where
+  abbrev read : tie.After-y Inv-loop μ-loop
+  read = c .before .before
 
-  abbrev square : Num
-  square = times (y c) (y c) (lit< tt)
-
-  with-this : squaresIn ys (k c + 1) ≤ (k c + 1) * (readingLimit * readingLimit)
-  with-this = squares-most ys (k c + 1) readingLimit (λ j l. start c .pre .0 .readings-most j (omega arith))
-
-  next : c .before .before .loop .squares + natAbs (toZ w64 (square .bits)) ≡ squaresIn ys (k c + 1)
-  next = ap₂ _+_ (c .before .before .loop .inv .1) (square-cast (y c) (lit< tt)) ∙ sym (squares-more ys (k c))
+  next : c .add-square .result ≡ wide (squaresIn (now (start read .args .readings)) (k read + 1))
+  next = squares-more (now (start read .args .readings)) (k read) (read .before .before .loop .inv .1) (c .before .size .ensures ∙ ap natAbs (y read .reads))
+      (c .add-square .ensures)
 
 loop-again : tie.Need-loop-again Inv-loop μ-loop
 loop-again c =
-    let l = c .before .before .before .loop in
-    let s = start (c .before) in
+    let l = read (c .before) .before .before .loop in
+    let s = start (read (c .before)) in
     let at : l .k < length (now (s .args .deviations)) = omega (arith, s .pre .1 .1 .0) in
     (omega arith, next (c .before), over-step (l .k) _ _ (l .inv .2) (all c .reads) at, simp length-set (l .inv .3))
 
 returns : tie.Need-returns Inv-loop μ-loop
 returns c =
     let end : c .before .loop .k ≡ c .before .before .before .args .b = omega arith in
-    (c .before .loop .inv .1 ∙ ap (squaresIn (now (c .before .before .before .args .readings))) end, over-end _ _ (c .before .loop .inv .2) end)
+    let ys = now (c .before .before .before .args .readings) in
+    (c .before .loop .inv .1 ∙ ap (λ (n : ℕ). wide (squaresIn ys n)) end, over-end _ _ (c .before .loop .inv .2) end)
 
 pub fill-deviations-spec : {M : Type 1} → statement M
 fill-deviations-spec =
@@ -103,18 +101,17 @@ fill-deviations-spec =
     Inv-loop
     μ-loop
     (λ c. small-fits (pos (c .before .args .vbeta)) (c .before .pre .1 .1 .1) (lit< tt))
-    (λ c. (omega arith, sumℕ-none _, over-none _ _, refl))
+    (λ c. (omega arith, squares-none (now (c .before .args .readings)), over-none _ _, refl))
     (λ c. omega arith)
     (λ c. omega (arith, c .before .before .before .pre .0 .readings-long))
     (λ c. widened-fits _ (fits c))
-    (λ c. times-fits (y c) (y c) (lit< tt))
-    (λ c. cast-fits (square c) (sq-nonneg (element c)) (lit< tt))
-    (λ c. record { fits = omega (arith, next c, with-this c, start c .pre .0 .blocks-most) })
-    (λ c. times-fits (scale c) (y c) (lit< tt))
-    (λ c κs. (omega (arith, start c .pre .0 .words-long), (left-held c, right-held c)))
-    (λ c. minus-fits (product (c .before)) (fit c) (lit< tt))
+    (λ c κs. search needs)
+    (λ c κs. search needs)
+    (λ c. times-fits (scale (read c)) (y (read c)) (lit< tt))
+    (λ c κs. (omega (arith, start (read c) .pre .0 .words-long), (left-held (read c), right-held (read c))))
+    (λ c. minus-fits (product (at c)) (fit c) (lit< tt))
     (λ c. omega arith)
-    (λ c. omega (arith, start (c .before) .pre .1 .1 .0, c .before .before .before .loop .inv .3))
+    (λ c. omega (arith, start (at c) .pre .1 .1 .0, at c .before .before .loop .inv .3))
     (λ c. omega arith)
     (λ c. omega arith)
     loop-again

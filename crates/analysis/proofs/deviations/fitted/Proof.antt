@@ -1,4 +1,6 @@
 -- `fitted`: the two sides by `set_sum`, each of which is small. Assumes nothing.
+use Rattle.laws.specs.Limits.{totalLimit}
+use Prim.Native.Nat.{_*_}
 use mathlib.Core.Path.{refl}
 use native.Mathlib.Omega.{arith}
 use lib.Dec.{lit<}
@@ -13,10 +15,10 @@ module _ (c : tie.After-set-sum2) where
   start = c .before .before .before .before .before
 
   abbrev left : Num
-  left = called (c .before .set-sum .result) 16640000000 (c .before .set-sum .ensures) (set-small _ _ (start .pre .1 .0)) (lit< tt)
+  left = called (c .before .set-sum .result) (64 * totalLimit) (c .before .set-sum .ensures) (set-small _ _ (start .pre .1 .0)) (lit< tt)
 
   abbrev right : Num
-  right = called (c .set-sum2 .result) 16640000000 (c .set-sum2 .ensures) (set-small _ _ (start .pre .1 .1)) (lit< tt)
+  right = called (c .set-sum2 .result) (64 * totalLimit) (c .set-sum2 .ensures) (set-small _ _ (start .pre .1 .1)) (lit< tt)
 
 returns : tie.Need-returns
 returns c = rw (minus (left c) (right c) (lit< tt) .reads) refl

@@ -8,8 +8,8 @@ use Rattle.analysis.proofs.spread.q.Statement.{statement}
 use Rattle.analysis.proofs.spread.q.Tie as tie
 
 returns : tie.Need-returns
-returns c = let a = c .before .before .args in
-    search (ap (λ (r : JobSpread). record { verdict = r .verdict; sum = r .spreading .q }) (c .spread .ensures)
+returns c = let a = c .before .before .before .before .args in
+    search (ap (λ (r : JobSpread). record { verdict = r .verdict; sum = r .spreading .q }) (c .before .before .spread .ensures)
     ∙ sym (q-of-spread (a .head) (now (a .blocks)) (now (a .readings))))
 
 pub q-spec : {M : Type 1} → statement M

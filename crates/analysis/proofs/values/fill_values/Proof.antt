@@ -1,6 +1,6 @@
 -- `fill_values`: the first i entries are numerators, and the later ones are as they were. Assumes nothing.
 use mathlib.Core.Path.{_≡_, refl, ap, _∙_}
-use Prim.Native.Nat.{ℕ, _-_, _≤_, _<_}
+use Prim.Native.Nat.{ℕ, _-_, _≤_, _<_, _*_}
 use native.Mathlib.Nat.{mul-le-mul}
 use native.Mathlib.Omega.{arith}
 use denote.Ref.{now}
@@ -56,7 +56,7 @@ module _ (c : tie.After-set-sum Inv-loop μ-loop) where
   summed = search (c .set-sum .ensures)
 
   abbrev over-set : Num
-  over-set = called (c .set-sum .result) 16640000000 summed (set-small _ _ (held-by _ _ _ (s .pre .0) (s .pre .1 .1))) (lit< tt)
+  over-set = called (c .set-sum .result) (64 * totalLimit) summed (set-small _ _ (held-by _ _ _ (s .pre .0) (s .pre .1 .1))) (lit< tt)
 
   abbrev scale : Num
   scale = unsigned (s .args .vbeta) 2600 (s .pre .1 .2) (lit< tt)

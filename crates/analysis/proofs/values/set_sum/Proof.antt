@@ -1,6 +1,6 @@
 -- `set_sum`: `sum`, with the totals of every object that is left, is the whole sum throughout. Assumes nothing.
 use mathlib.Core.Path.{refl, sym, ap, _∙_, subst}
-use Prim.Native.Nat.{ℕ, _≤_, _<_}
+use Prim.Native.Nat.{ℕ, _≤_, _<_, _*_}
 use native.Mathlib.Omega.{arith}
 use denote.Ref.{now}
 use lib.Dec.{lit<}
@@ -53,7 +53,7 @@ module _ (c : tie.After-total Inv-loop μ-loop) where
   total = number (totalAt (now (start o .args .totals)) (o .lowest .result)) totalLimit (held o .1) (lit< tt)
 
   abbrev so-far : Num
-  so-far = local (o .before .before .loop .sum) 33280000000 refl (so-far-small _ _ _ _ (start o .pre) (o .before .before .loop .inv))
+  so-far = local (o .before .before .loop .sum) (128 * totalLimit) refl (so-far-small _ _ _ _ (start o .pre) (o .before .before .loop .inv))
 
 loop-again : tie.Need-loop-again Inv-loop μ-loop
 loop-again c =

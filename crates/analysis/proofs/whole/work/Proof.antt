@@ -3,6 +3,7 @@ use borrow.Author.Needs.{needs}
 use mathlib.Core.Path.{_≡_, sym, ap, _∙_, subst₂}
 use mathlib.Core.List.{List, replicate}
 use Prim.Native.Nat.{ℕ, _-_, _*_}
+use native.Mathlib.Nat.{mul-le-mul}
 use native.Mathlib.Omega.{arith}
 use denote.Ref.{now}
 use lib.IntN.{ℤ, pos}
@@ -11,15 +12,18 @@ use mir.Syntax.{w64}
 use mir.Val.{toZ, ofZ}
 use Rattle.algebra.specs.Buffers.{over}
 use Rattle.records.specs.declared.SquareSum.{SquareSum}
+use Rattle.records.specs.declared.Wide.{Wide}
 use Rattle.meaning.specs.Design.{objects, blocks}
 use Rattle.design.proofs.Within.{within-sizes}
 use Rattle.meaning.specs.Analysis.{denominator, freedom, members}
+use Rattle.meaning.specs.Wide.{value, wide}
 use Rattle.meaning.specs.Refusals.{accepted}
 use Rattle.arithmetic.specs.Hundredths.{spreadingFrom}
+use Rattle.arithmetic.proofs.Words.{exact}
 use Rattle.laws.proofs.Chains.{given-yes}
 use Rattle.weighing.specs.Developed.{totalIn, squaredTotalsIn}
 use Rattle.weighing.proofs.Refusing.{Weighable, weighable}
-use Rattle.analysis.specs.Worked.{totalAt, Totalled, Measured, scaleIn, numeratorIn}
+use Rattle.analysis.specs.Worked.{totalAt, squaresIn, Totalled, Measured, scaleIn, numeratorIn}
 use Rattle.analysis.proofs.Working.{held-by, totalled, numerators-agree, deviations-agree}
 use Rattle.analysis.proofs.whole.work.Statement.{statement}
 use Rattle.analysis.proofs.whole.work.Tie as tie
@@ -44,12 +48,23 @@ module _ (c : tie.After-weigh) where
   filled : totals ≡ over (objects (start .args .head)) (totalIn words ys (blocks (start .args .head))) (replicate 50 (pos 0))
   filled = c .weigh .ensures .1 ∙ given-yes _ _ _ (start .pre .0 .weighable)
 
-  squared : c .weigh .result .sum ≡ squaredTotalsIn words ys (blocks (start .args .head)) (objects (start .args .head))
-  squared = ap (λ (r : SquareSum). r .sum) (c .weigh .ensures .0)
-      ∙ given-yes _ (squaredTotalsIn words ys (blocks (start .args .head)) (objects (start .args .head))) 0 (start .pre .0 .weighable)
+  abbrev measures : Measured (start .args .head) (scaleIn (start .args .parameters)) (squaresIn ys (blocks (start .args .head)))
+      (squaredTotalsIn words ys (blocks (start .args .head)) (objects (start .args .head)))
+  measures = start .pre .0 .measured
+
+  -- the squared totals fit two words
+  squared : value (c .weigh .result .sum) ≡ squaredTotalsIn words ys (blocks (start .args .head)) (objects (start .args .head))
+  squared = exact (squaredTotalsIn words ys (blocks (start .args .head)) (objects (start .args .head)))
+      (omega (arith, measures .q-some, mul-le-mul (measures .vbeta-most) (measures .readings-most)))
+      (ap (λ (r : SquareSum). r .sum) (c .weigh .ensures .0) ∙ given-yes _ _ _ (start .pre .0 .weighable))
 
   ranged : Totalled totals (objects (start .args .head))
   ranged = totalled _ _ _ _ _ stands filled
+
+-- so do the squared readings
+squares-fit : (c : tie.After-weigh) (r : Wide) → r ≡ wide (squaresIn (ys c) (blocks (start c .args .head))) →
+    value r ≡ squaresIn (ys c) (blocks (start c .args .head))
+squares-fit c r e = exact (squaresIn (ys c) (blocks (start c .args .head))) (omega (arith, measures c .readings-most)) e
 
 abbrev objects-start : tie.After-objects → tie.Start
 objects-start c = c .before .before .before .before .before
@@ -79,8 +94,8 @@ fill-deviations-requires c κs =
 measure-requires : tie.Need-measure-requires
 measure-requires c κs =
     let w = c .before .before .before .before .before .before .before .before .before .before .before .before .before in
-    subst₂ (λ (R T : ℕ). Measured (start w .args .head) (scaleIn (start w .args .parameters)) R T) (sym (c .before .fill-deviations .ensures .0))
-    (sym (squared w)) (start w .pre .0 .measured)
+    subst₂ (λ (R T : ℕ). Measured (start w .args .head) (scaleIn (start w .args .parameters)) R T)
+    (sym (squares-fit w _ (c .before .fill-deviations .ensures .0))) (sym (squared w)) (start w .pre .0 .measured)
 
 returns : tie.Need-returns
 returns c =
@@ -89,8 +104,8 @@ returns c =
     let v = counted (c .before .before .before .before .before .before .before .before .before .before .before .before) in
     let a = start w .args in
     let spread = c .measure .ensures
-    ∙ (λ j. spreadingFrom (scaleIn (a .parameters) * c .before .before .fill-deviations .ensures .0 j - squared w j) (scaleIn (a .parameters))
-    (freedom (a .head))) in (
+    ∙ (λ j. spreadingFrom (wide (scaleIn (a .parameters) * squares-fit w _ (c .before .before .fill-deviations .ensures .0) j - squared w j))
+    (scaleIn (a .parameters)) (freedom (a .head))) in (
       (λ j. record {
         verdict = accepted;
         parameters = a .parameters;

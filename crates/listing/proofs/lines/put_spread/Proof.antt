@@ -13,9 +13,9 @@ returns c =
     let c4 = c5 .before .before .before .before in
     let c3 = c4 .before .before .before .before in
     let c2 = c3 .before .before .before .before in
-    let c1 = c2 .before .before .before .before in
+    let c1 = c2 .before .before .before .before .before in
     named (c1 .put-text .ensures then
-    (c2 .put-number .ensures then c3 .put-number2 .ensures then c4 .put-number3 .ensures then c5 .put-last .ensures) then c6 .put-byte .ensures)
+    (c2 .put-wide .ensures then c3 .put-number .ensures then c4 .put-number2 .ensures then c5 .put-last .ensures) then c6 .put-byte .ensures)
     (search needs)
 
 pub put-spread-spec : {M : Type 1} → statement M

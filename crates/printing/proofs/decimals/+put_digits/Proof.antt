@@ -40,10 +40,10 @@ pub +put-digits-spec : {M : Type 1} → statement M
     (λ c κs. tt)
     (λ c. search needs)
     (λ c. named (c .before .before .put-byte .ensures)
-    (rw (digits-one (c .before .before .before .before .before .before .args .n) (omega arith)) (search needs)))
+    (rw (digits-one 19 (c .before .before .before .before .before .before .args .n) (omega arith)) (search needs)))
     (λ c. search needs)
     (λ c.
     let c2 = c .before .before in
     let c1 = c2 .before .before .before .before in
     let n = c1 .before .before .before .before .args .n in
-    named (c1 .put-digits .ensures then c2 .put-byte2 .ensures) (rw (digits-more n (omega arith) (omega arith)) (search needs)))
+    named (c1 .put-digits .ensures then c2 .put-byte2 .ensures) (rw (digits-more 18 n (omega arith) (omega arith)) (search needs)))

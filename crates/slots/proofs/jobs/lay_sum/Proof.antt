@@ -8,7 +8,7 @@ returns : tie.Need-returns
 unfolding sumCall
 returns c =
     let laid = c .before .before .before in
-    let verdict = laid .before .before .before .with-room .ensures in
+    let verdict = laid .before .before .before .before .with-room .ensures in
     (search (rw verdict at (c .told .ensures)), search (rw verdict at (laid .lay .ensures)))
 
 pub lay-sum-spec : {M : Type 1} → statement M

@@ -1,7 +1,7 @@
 -- `add_to`: what is still to be added, added now, is what was to be added at first. Assumes nothing.
 use mathlib.Core.Path.{_≡_, refl, ap, _∙_}
 use mathlib.Core.List.{List}
-use Prim.Native.Nat.{ℕ, _≤_, _<_}
+use Prim.Native.Nat.{ℕ, _*_, _≤_, _<_}
 use native.Mathlib.Omega.{arith}
 use denote.Ref.{now}
 use lib.Dec.{lit<}
@@ -58,13 +58,13 @@ module _ (c : tie.After-lowest Inv-loop μ-loop) where
   inside : c .lowest .result < length room
   inside = omega (arith, held .0, walk-long _ rest _ room (now (start .args .totals)) (c .before .before .loop .inv .1))
 
-  small : natAbs (getD room (c .lowest .result) (pos 0)) ≤ 260600000
+  small : natAbs (getD room (c .lowest .result) (pos 0)) ≤ totalLimit + 3 * readingLimit
   small = omega (arith, held .1, walk-most _ _ (y .small) rest room (now (start .args .totals)) (c .lowest .result) (c .before .before .loop .inv .1))
 
 -- what is stored
 module _ (c : tie.After-total Inv-loop μ-loop) where
   abbrev total : Num
-  total = number (getD (room (c .before)) (c .before .lowest .result) (pos 0)) 260600000 (small (c .before)) (lit< tt)
+  total = number (getD (room (c .before)) (c .before .lowest .result) (pos 0)) (totalLimit + 3 * readingLimit) (small (c .before)) (lit< tt)
 
   abbrev sum : Num
   sum = plus total (y (c .before)) (lit< tt)

@@ -1,48 +1,37 @@
--- `squared_totals`: `sum` is the squares of the first i totals. Assumes nothing.
-use mathlib.Core.Path.{_≡_, sym, ap₂, _∙_}
-use Prim.Native.Nat.{ℕ, _+_, _-_, _*_, _≤_}
+-- `squared_totals`: `sum` is the words of the squares of the first i totals. Assumes nothing.
+use borrow.Author.Needs.{needs}
+use mathlib.Core.Path.{_≡_, ap, _∙_}
+use Prim.Native.Nat.{_-_, _≤_}
 use native.Mathlib.Omega.{arith}
-use lib.Dec.{lit<}
 use lib.IntN.{ℤ, pos, natAbs}
 use lib.ListN.{getD}
 use mir.Syntax.{w64}
-use mir.Val.{toZ}
-use Rattle.algebra.proofs.Order.{sq-nonneg}
-use Rattle.algebra.proofs.Sums.{sumℕ-none}
-use Rattle.algebra.proofs.Numbers.{Num, number, times, times-fits, cast-fits}
-use Rattle.weighing.proofs.SquareSums.{squares, squares-most, squares-more, square-cast}
+use mir.Val.{SFits}
+use mir.Facts.{toZ-ofZ}
+use Rattle.meaning.specs.Wide.{wide}
+use Rattle.weighing.proofs.SquareSums.{squares, squares-none, squares-more}
 use Rattle.weighing.proofs.adding.squared_totals.Statement.{statement}
-use Rattle.laws.specs.Limits.{totalLimit}
 use Rattle.weighing.proofs.adding.squared_totals.Tie as tie
 
 abbrev Inv-loop : tie.InvT-loop
-Inv-loop totals v sum₀ i₀ sum i = (i ≤ v) × (sum ≡ squares totals i)
+Inv-loop totals v sum₀ i₀ sum i = (i ≤ v) × (sum ≡ wide (squares totals i))
 
 abbrev μ-loop : tie.MeasureT-loop
 μ-loop totals v sum₀ i₀ sum i = v - i
 
--- what a turn computes
+-- what a turn reads
 module _ (c : tie.After-total Inv-loop μ-loop) where
-  abbrev start : tie.Start Inv-loop μ-loop
-  start = c .before .before .before
-
-  abbrev i : ℕ
-  i = c .before .before .loop .i
-
   abbrev element : ℤ
-  element = getD (start .args .totals .now) i (pos 0)
+  element = getD (c .before .before .before .args .totals .now) (c .before .before .loop .i) (pos 0)
 
-  abbrev total : Num
-  total = number element totalLimit (start .pre .1 i (omega arith)) (lit< tt)
+  fits : SFits w64 element
+  fits = record { sfits = c .total .given }
 
-  abbrev square : Num
-  square = times total total (lit< tt)
-
-  with-this : squares (start .args .totals .now) (i + 1) ≤ (i + 1) * (totalLimit * totalLimit)
-  with-this = squares-most (start .args .totals .now) (i + 1) totalLimit (λ j l. start .pre .1 j (omega arith))
-
-  next : c .before .before .loop .sum + natAbs (toZ w64 (square .bits)) ≡ squares (start .args .totals .now) (i + 1)
-  next = ap₂ _+_ (c .before .before .loop .inv .1) (square-cast total (lit< tt)) ∙ sym (squares-more (start .args .totals .now) i)
+loop-again : tie.Need-loop-again Inv-loop μ-loop
+loop-again c =
+    let t = c .before .before .before .before in
+    let sized : c .before .size .result ≡ natAbs (element (c .before .before)) = c .before .size .ensures ∙ ap natAbs (toZ-ofZ (fits (c .before .before))) in
+    (omega arith, squares-more (t .before .args .totals .now) (t .loop .i) (t .loop .inv .1) sized (c .add-square .ensures))
 
 pub squared-totals-spec : {M : Type 1} → statement M
 squared-totals-spec =
@@ -50,13 +39,12 @@ squared-totals-spec =
     (tie.spec
     Inv-loop
     μ-loop
-    (λ c. (omega arith, sumℕ-none _))
+    (λ c. (omega arith, squares-none (c .args .totals .now)))
     (λ c. omega arith)
     (λ c. omega arith)
-    (λ c. times-fits (total c) (total c) (lit< tt))
-    (λ c. cast-fits (square c) (sq-nonneg (element c)) (lit< tt))
-    (λ c. record { fits = omega (arith, next c, with-this c) })
+    (λ c κs. search needs)
+    (λ c κs. search needs)
     (λ c. omega arith)
     (λ c. omega arith)
-    (λ c. (omega arith, next c))
+    loop-again
     (λ c. let e : c .before .loop .i ≡ c .before .before .args .v = omega arith in cc))

@@ -1,4 +1,4 @@
--- `weigh`: past the tests what is filled are the totals, each small enough to be squared. Assumes nothing.
+-- `weigh`: past the tests what is filled are the totals, which are squared. Assumes nothing.
 use borrow.Author.Needs.{needs}
 use mathlib.Core.Path.{_≡_, sym, ap, _∙_}
 use mathlib.Core.List.{List}
@@ -12,6 +12,7 @@ use Rattle.algebra.proofs.Filling.{length-over}
 use Rattle.records.specs.declared.Verdict.{Verdict}
 use Rattle.meaning.specs.Design.{objects, blocks}
 use Rattle.meaning.specs.Refusals.{accepted}
+use Rattle.meaning.specs.Wide.{wide}
 use Rattle.laws.proofs.Chains.{given-yes, given-no}
 use Rattle.design.proofs.Within.{within-sizes}
 use Rattle.verdicts.proofs.Told.{refusing, accepting}
@@ -19,7 +20,7 @@ use Rattle.weighing.proofs.SquareSums.{squares}
 use Rattle.verdicts.proofs.Sums.{square-refused, square-accepted}
 use Rattle.weighing.specs.Verdicts.{weighVerdict}
 use Rattle.weighing.specs.Developed.{totalIn, squaredTotalsIn}
-use Rattle.weighing.proofs.Developing.{filled-most, filled-squares}
+use Rattle.weighing.proofs.Developing.{filled-squares}
 use Rattle.weighing.proofs.Refusing.{Weighable, weighable}
 use Rattle.weighing.proofs.adding.weigh.Statement.{statement}
 use Rattle.weighing.proofs.adding.weigh.Tie as tie
@@ -92,17 +93,16 @@ fill-requires c κs =
 squared-totals-requires : tie.Need-squared-totals-requires
 squared-totals-requires c κs =
     let f = c .before .before in
-    let t = stands (told f) in
-    ((rw (counted f) (t .fit .objects-most), rw (counted f) (long f)), rw (counted f) (filled-most _ _ _ _ _ _ (t .roomy) (filled f) (t .weighed)))
+    rw (counted f) (long f)
 
 returns-2 : tie.Need-returns-2
 returns-2 c =
     let f = c .before .before .before in
     let s = start (told f) in
     let e = passed (told f) in
-    let summed : c .squared-totals .result ≡ squares (totals f) (objects (s .args .head)) = c .squared-totals .ensures
-    ∙ ap (squares (totals f)) (counted f) in (
-      square-accepted (verdict s) (squared s) _ e (summed ∙ filled-squares _ _ _ _ _ _ (stands (told f) .roomy) (filled f)),
+    let summed : c .squared-totals .result ≡ wide (squares (totals f) (objects (s .args .head))) = c .squared-totals .ensures
+    ∙ ap (λ (v : ℕ). wide (squares (totals f) v)) (counted f) in (
+      square-accepted (verdict s) (squared s) _ e (summed ∙ ap wide (filled-squares _ _ _ _ _ _ (stands (told f) .roomy) (filled f))),
       filled f
           ∙ sym (given-yes (verdict s) _ _ e),
     )

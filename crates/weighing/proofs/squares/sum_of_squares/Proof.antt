@@ -1,6 +1,6 @@
 -- `sum_of_squares`: each way out is its verdict, by the tests that led there. Assumes nothing.
 use borrow.Author.Needs.{needs}
-use mathlib.Core.Path.{_≡_, refl, sym, _∙_}
+use mathlib.Core.Path.{_≡_, refl, sym, ap, _∙_}
 use mathlib.Core.Bool.{true}
 use native.Mathlib.Omega.{arith}
 use borrow.Author.Tests.{not-true, not-false, eq-eqb, ne-eqb}
@@ -9,8 +9,9 @@ use lib.ListN.{length}
 use lib.Dec.{eqb}
 use Rattle.meaning.specs.Design.{sized, blocks}
 use Rattle.meaning.specs.Refusals.{accepted, refused, inReach}
+use Rattle.meaning.specs.Wide.{wide}
 use Rattle.meaning.specs.Calls.{squaredReadingsVerdict}
-use Rattle.laws.proofs.Chains.{fits, readings-near}
+use Rattle.laws.proofs.Chains.{fits}
 use Rattle.verdicts.proofs.Told.{accepting}
 use Rattle.weighing.proofs.SquareSums.{readings-squares}
 use Rattle.verdicts.proofs.Sums.{square-refused, square-accepted}
@@ -62,7 +63,7 @@ returns-4 : tie.Need-returns-4
 unfolding squaredReadingsVerdict
 returns-4 c =
     square-accepted _ _ _ (rw (passed (c .before .before .before .before .before), long (c .before .before .before .before), close (c .before)))
-    (c .squared-readings .ensures ∙ sym (readings-squares _ _))
+    (c .squared-readings .ensures ∙ ap wide (sym (readings-squares _ _)))
 
 pub sum-of-squares-spec : {M : Type 1} → statement M
 sum-of-squares-spec =
@@ -79,5 +80,5 @@ sum-of-squares-spec =
     (λ c κs. search needs)
     returns-3
     (λ c. let f = fits _ (passed (c .before .before .before .before)) in omega arith)
-    (λ c κs. let f = fits _ (passed (c .before .before .before .before)) in ((omega arith, omega arith), λ k l. readings-near _ (close c) k (omega arith)))
+    (λ c κs. let f = fits _ (passed (c .before .before .before .before)) in omega arith)
     returns-4)

@@ -1,2 +1,0 @@
--- The law behind the last two digits of the hundredths.
-pub mod Hundreds

@@ -18,3 +18,4 @@ pub mod Writing
 pub mod Lengths
 pub mod Enough
 pub mod Cut
+pub mod Edition2

@@ -56,7 +56,8 @@ take-again zero l = refl
 take-again (suc k) [] = refl
 take-again (suc k) (x ∷ l) = ap (λ (t : List ℕ). x ∷ t) (take-again k l)
 
-part-most : (k : ℕ) (l : List ℕ) → length (take k l) ≤ length l
+-- and is no longer than the whole
+pub part-most : (k : ℕ) (l : List ℕ) → length (take k l) ≤ length l
 part-most zero l = omega arith
 part-most (suc k) [] = omega arith
 part-most (suc k) (x ∷ l) = omega (arith, part-most k l)

@@ -1,0 +1,2 @@
+-- What a move answers, and the room after it.
+pub mod Putting

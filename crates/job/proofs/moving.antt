@@ -1,2 +1,2 @@
--- What a move answers, and the room after it.
+-- The verdicts of the moves, test by test.
 pub mod Putting

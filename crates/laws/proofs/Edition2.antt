@@ -13,7 +13,8 @@ use Prim.Native.Nat.{ℕ, zero, suc, _+_, _-_, _*_, _≤_, _<_}
 use native.Mathlib.Omega.{arith}
 use borrow.Author.Tests.{eqb-true, leb-true, le-leb, lt-leb, ne-eqb}
 use lib.Dec.{eqb, leb}
-use lib.ListN.{length, getD, take, drop, length-take, length-drop, take-append-drop}
+use lib.IntN.{ℤ}
+use lib.ListN.{length, getD, take, drop, length-append, length-take, length-drop, take-append-drop}
 use lib.Seq.{take-all, take-length, drop-cons, length-take-le}
 use Rattle.records.specs.declared.Head.{Head}
 use Rattle.records.specs.declared.Verdict.{Verdict}
@@ -22,6 +23,7 @@ use Rattle.meaning.specs.Design.{objects, blocks}
 use Rattle.meaning.specs.Refusals.{accepted, refused, test, _⨾_}
 use Rattle.meaning.specs.Calls.{given, jobVerdict, rooms}
 use Rattle.meaning.specs.File.{big, fieldVerdict, headOf, endAt, blocksOf, readingsOf, setOf, sumOf, fields, readVerdict, solveVerdict}
+use Rattle.meaning.specs.Writing.{bytesOf, fileOf}
 use Rattle.meaning.specs.Text.{textUnder, textOf}
 use Rattle.meaning.specs.Edition2.{
   fileLimit2,
@@ -40,10 +42,14 @@ use Rattle.meaning.specs.Edition2.{
   solveVerdict2,
   textOf2,
   secondOf,
+  namesField,
+  fileOf2,
+  fileLength2,
 }
 use Rattle.laws.proofs.Chains.{opened, held, test-yes, accepts, goes-on, refused-is-not}
 use Rattle.laws.proofs.Files.{filed, file-job}
-use Rattle.laws.proofs.Writing.{Fielded, fielded}
+use Rattle.laws.proofs.Writing.{Fielded, fielded, file-length}
+use Rattle.laws.proofs.Bytes.{bytes-long}
 use Rattle.laws.proofs.Enough.{job-length}
 use Rattle.laws.proofs.Lengths.{refused-length}
 use Rattle.laws.proofs.Cut.{longest-file}
@@ -255,3 +261,25 @@ module _ (s : List ℕ) (e : edition s ≡ accepted) where
       let f = edited s e in
       let l = f .long in
       rw (le-leb 3 (length s) (omega arith), f .tag) refl
+
+-- ---- a file written
+
+-- the field of the names, in bytes
+pub names-none : (names : List ℕ) → length names ≡ 0 → namesField names ≡ []
+names-none [] e = refl
+names-none (x ∷ names) e = absurd (omega arith)
+
+pub names-some : (names : List ℕ) → 0 < length names → namesField names ≡ namesTag ∷ bytesOf 2 (length names) ++ names
+names-some [] l = absurd (omega arith)
+names-some (x ∷ names) l = refl
+
+pub names-long : (names : List ℕ) → length (namesField names) ≤ 3 + length names
+names-long [] = omega arith
+names-long (x ∷ names) = let e = length-append (bytesOf 2 (length (x ∷ names))) (x ∷ names) in omega (arith, e, bytes-long 2 (length (x ∷ names)))
+
+-- the file has the length that is asked for
+pub second-length : (h : Head) (d : List ℕ) (y : List ℤ) (w : ℕ) (M : ℤ) (names : List ℕ) → jobVerdict h d y w M ≡ accepted →
+    length (fileOf2 h d y w M names) ≡ fileLength2 h names
+unfolding fileOf2
+second-length h d y w M names e =
+    let a = length-append (fileOf h d y w M) (namesField names) in omega (arith, a, file-length h d y w M e)

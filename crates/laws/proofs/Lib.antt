@@ -19,3 +19,4 @@ pub mod Lengths
 pub mod Enough
 pub mod Cut
 pub mod Edition2
+pub mod Putting

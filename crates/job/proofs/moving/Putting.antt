@@ -1,4 +1,4 @@
--- What a move answers, and the room after it, under its verdict. Assumes nothing.
+-- The verdict of a move, by the first of its tests that refuses, or by none; and what an accepted one has. Assumes nothing.
 use Prim.Native.Nat.{ℕ, _+_, _-_, _≤_, _<_}
 use mathlib.Core.Path.{_≡_, refl, sym, ap, _∙_}
 use mathlib.Core.Bool.{Bool, true, false}
@@ -17,23 +17,6 @@ use Rattle.meaning.specs.File.{readVerdict}
 use Rattle.meaning.specs.Edition2.{startAt, fourOf, optionalAt, readVerdict2, putAnswer, putAfter, toSecondVerdict, toFirstVerdict}
 use Rattle.laws.proofs.Chains.{opened, held}
 use Rattle.verdicts.proofs.Told.{refusing}
-
-module _ (verdict : Verdict) (file out : List ℕ) where
-  -- the answer and the room after are those of putting the file
-  abbrev pub Put : JobWritten → List ℕ → Type 0
-  Put r after = (r ≡ putAnswer verdict file) × (after ≡ putAfter verdict file out)
-
-  -- refused: no byte is written
-  pub unput : (v : Verdict) → v ≡ verdict → given v false true ≡ true → Put (record { verdict = v; length = 0 }) out
-  unput v e r = let f = sym e ∙ refusing v r in rw f (ap (λ (w : Verdict). record { verdict = w; length = 0 }) (refusing v r), refl)
-
-  -- accepted: the file stands in front, as many bytes as were put
-  pub put : {after : List ℕ} {r : ℕ} (v : Verdict) → v ≡ accepted → verdict ≡ accepted → Wrote out 0 file after r → length file ≤ length out →
-      length out < 18446744073709551615 → Put (record { verdict = v; length = r }) after
-  put {after} {r} v a e p l small =
-      let count : r ≡ length file = counts p (omega arith) in
-      let there : after ≡ file ++ drop (length file) out = in-front p l small in
-      rw (a, e) ((λ j. record { verdict = accepted; length = count j }), there)
 
 -- ---- the verdicts, test by test
 

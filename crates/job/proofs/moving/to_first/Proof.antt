@@ -10,8 +10,9 @@ use Rattle.algebra.proofs.Writing.{named}
 use Rattle.meaning.specs.Refusals.{accepted}
 use Rattle.meaning.specs.Edition2.{fourOf, toFirstVerdict}
 use Rattle.laws.proofs.Edition2.{whole, file-job2, four-inside}
+use Rattle.laws.proofs.Putting.{unput, put}
 use Rattle.verdicts.proofs.Told.{accepting}
-use Rattle.job.proofs.moving.Putting.{unput, put, first-room}
+use Rattle.job.proofs.moving.Putting.{first-room}
 use Rattle.job.proofs.second.Fields.{part-is}
 use Rattle.job.proofs.moving.to_first.Statement.{statement}
 use Rattle.job.proofs.moving.to_first.Tie as tie

@@ -7,8 +7,9 @@ use lib.ListN.{length}
 use Rattle.algebra.proofs.Writing.{_then_, named}
 use Rattle.meaning.specs.Refusals.{accepted}
 use Rattle.meaning.specs.Edition2.{secondOf, toSecondVerdict}
+use Rattle.laws.proofs.Putting.{unput, put}
 use Rattle.verdicts.proofs.Told.{accepting}
-use Rattle.job.proofs.moving.Putting.{unput, put, second-room}
+use Rattle.job.proofs.moving.Putting.{second-room}
 use Rattle.job.proofs.moving.to_second.Statement.{statement}
 use Rattle.job.proofs.moving.to_second.Tie as tie
 

@@ -13,6 +13,7 @@ mod design;
 mod job;
 mod listing;
 mod papers;
+mod second;
 mod seed;
 mod selftest;
 mod solve;

@@ -95,7 +95,10 @@ pub extern "C" fn bench_write_second(
         let verdict = tested.verdict;
         return told(verdict);
     }
-    lay_written(write_second(head, blocks, set, sum, readings, names, out), answer)
+    lay_written(
+        write_second(head, blocks, set, sum, readings, names, out),
+        answer,
+    )
 }
 
 // Moves a file of the first edition to the second, at the front of `out`. Without a slot the tests alone are made.

@@ -1,7 +1,7 @@
 -- Files moved from one edition to the other, as the request has it. Assumes nothing.
 use mathlib.Core.Path.{_≡_, refl, sym, ap, subst, _∙_}
-use mathlib.Core.Bool.{Bool, true, false, not, _||_}
-use mathlib.Core.List.{List, [], _∷_, _++_}
+use mathlib.Core.Bool.{not, _||_}
+use mathlib.Core.List.{List}
 use Prim.Native.Nat.{ℕ, zero, suc, _+_, _*_, _≤_, _<_}
 use native.Mathlib.Omega.{arith}
 use native.Mathlib.Decide.{decLe}
@@ -12,8 +12,7 @@ use lib.Seq.{take-at}
 use Rattle.records.specs.declared.Verdict.{Verdict}
 use Rattle.records.specs.declared.Verdict.the-variants.{Accepted, Refused}
 use Rattle.meaning.specs.Design.{objects}
-use Rattle.meaning.specs.Refusals.{accepted, refused, test, _⨾_, room}
-use Rattle.meaning.specs.Calls.{given}
+use Rattle.meaning.specs.Refusals.{accepted, test, _⨾_, room}
 use Rattle.meaning.specs.File.{big, headOf, fieldVerdict, fields, readVerdict}
 use Rattle.meaning.specs.Text.{textUnder, textOf}
 use Rattle.meaning.specs.Edition2.{

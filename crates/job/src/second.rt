@@ -59,7 +59,12 @@ pub fn read_second(bytes: &[u8]) -> SecondRead
 }
 
 // Works a file of the second edition out into lent room, as a file of the first is. A refusal writes nowhere.
-pub fn solve_second(bytes: &[u8], words: &mut [u64], values: &mut [i64], deviations: &mut [i64]) -> Solved
+pub fn solve_second(
+    bytes: &[u8],
+    words: &mut [u64],
+    values: &mut [i64],
+    deviations: &mut [i64],
+) -> Solved
     ensures { λ r. ⌜ r ≡ solveAnswer2 (now (bytes .entry)) (now (words .entry)) (now (values .entry)) (now (deviations .entry)) ⌝ }
     ensures { λ _. ⌜ now (words .exit) ≡ solveWords2 (now (bytes .entry)) (now (words .entry)) (now (values .entry)) (now (deviations .entry)) ⌝ }
     ensures { λ _. ⌜ now (values .exit) ≡ solveValues2 (now (bytes .entry)) (now (words .entry)) (now (values .entry)) (now (deviations .entry)) ⌝ }

@@ -7,15 +7,15 @@
 --     first-reader              a reader of the first edition refuses a file of the second with 2 at 0
 -- Assumes nothing.
 use mathlib.Core.Path.{_≡_, refl, sym, ap, _∙_}
-use mathlib.Core.Bool.{Bool, true, false, cond, _||_}
+use mathlib.Core.Bool.{Bool, true, false}
 use mathlib.Core.List.{List, [], _∷_, _++_}
 use Prim.Native.Nat.{ℕ, zero, suc, _+_, _-_, _*_, _≤_, _<_}
 use native.Mathlib.Omega.{arith}
-use borrow.Author.Tests.{eqb-true, leb-true, le-leb, lt-leb, ne-eqb}
+use borrow.Author.Tests.{eqb-true, leb-true, le-leb}
 use lib.Dec.{eqb, leb}
 use lib.IntN.{ℤ}
-use lib.ListN.{length, getD, take, drop, length-append, length-take, length-drop, take-append-drop}
-use lib.Seq.{take-all, take-length, drop-cons, length-take-le}
+use lib.ListN.{length, getD, take, drop, length-append, length-drop}
+use lib.Seq.{take-all, drop-cons}
 use Rattle.records.specs.declared.Head.{Head}
 use Rattle.records.specs.declared.Verdict.{Verdict}
 use Rattle.records.specs.declared.Verdict.the-variants.{Accepted, Refused}
@@ -48,7 +48,7 @@ use Rattle.meaning.specs.Edition2.{
 }
 use Rattle.laws.proofs.Chains.{opened, held, test-yes, accepts, goes-on, refused-is-not}
 use Rattle.laws.proofs.Files.{filed, file-job}
-use Rattle.laws.proofs.Writing.{Fielded, fielded, file-length}
+use Rattle.laws.proofs.Writing.{fielded, file-length}
 use Rattle.laws.proofs.Bytes.{bytes-long}
 use Rattle.laws.proofs.Enough.{job-length}
 use Rattle.laws.proofs.Lengths.{refused-length}

@@ -36,7 +36,12 @@ fn listing_in_rooms(
 }
 
 // The text of what was worked out, from the first numbers of two rooms: one for each object and one for each block.
-pub(crate) fn render_first(solved: Solved, values: &[i64], deviations: &[i64], out: &mut [u8]) -> Listed
+pub(crate) fn render_first(
+    solved: Solved,
+    values: &[i64],
+    deviations: &[i64],
+    out: &mut [u8],
+) -> Listed
     requires { ⌜ (solved .parameters .v ≤ length (now values)) × (solved .parameters .b ≤ length (now deviations)) ⌝ }
     ensures { λ r. ⌜ r ≡ renderedAnswer (sheetOf solved (now (values .entry)) (now (deviations .entry))) (length (now (out .entry))) ⌝ }
     ensures { λ r. ⌜ now (out .exit) ≡ renderedAfter (sheetOf solved (now (values .entry)) (now (deviations .entry))) (now (out .entry)) ⌝ }

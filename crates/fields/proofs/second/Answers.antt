@@ -1,13 +1,12 @@
 -- The edition field and an optional field, by the first test that fails, or by none; and where the four fields end. Assumes nothing.
-use Prim.Native.Nat.{ℕ, zero, suc, _+_, _-_, _*_, _≤_, _<_}
+use Prim.Native.Nat.{ℕ, zero, suc, _+_, _-_, _≤_, _<_}
 use mathlib.Core.Path.{_≡_, refl, sym, ap, subst, _∙_}
-use mathlib.Core.Bool.{Bool, true, false, false≢true, cond, not, _||_}
-use mathlib.Core.List.{List, [], _∷_}
+use mathlib.Core.Bool.{true, false, false≢true, not, _||_}
+use mathlib.Core.List.{List}
 use native.Mathlib.Omega.{arith}
-use native.Mathlib.Nat.{mul-le-mul}
 use borrow.Author.Tests.{leb-true, le-leb, lt-leb, eq-eqb, ne-eqb, not-true, not-false}
 use lib.Dec.{eqb, leb}
-use lib.ListN.{length, getD, take, drop, length-drop, drop-of-length-le}
+use lib.ListN.{length, getD, take, drop, length-drop}
 use lib.Seq.{length-take-le, take-all, getD-drop}
 use mir.Syntax.{w8}
 use mir.Val.{Fits}
@@ -18,7 +17,7 @@ use Rattle.records.specs.declared.Verdict.the-variants.{Accepted, Refused}
 use Rattle.meaning.specs.Refusals.{accepted, refused, test, _⨾_}
 use Rattle.meaning.specs.Calls.{given}
 use Rattle.meaning.specs.File.{big, fieldVerdict, fieldAt, fieldSays, endAt}
-use Rattle.meaning.specs.Edition2.{startAt, edition, fourOf, namesTag, optionalAt, optionalVerdict, optionals}
+use Rattle.meaning.specs.Edition2.{edition, fourOf, namesTag, optionalAt, optionalVerdict, optionals}
 use Rattle.laws.proofs.Chains.{opened, held, goes-on}
 use Rattle.laws.proofs.Edition2.{part-most, optionals-end}
 use Rattle.fields.proofs.Bounds.{third-bound, blocks-bound}

@@ -1,20 +1,16 @@
 -- The verdict of a move, by the first of its tests that refuses, or by none; and what an accepted one has. Assumes nothing.
 use Prim.Native.Nat.{ℕ, _+_, _-_, _≤_, _<_}
-use mathlib.Core.Path.{_≡_, refl, sym, ap, _∙_}
-use mathlib.Core.Bool.{Bool, true, false}
-use mathlib.Core.List.{List, _++_}
-use native.Mathlib.Omega.{arith}
+use mathlib.Core.Path.{_≡_, refl, sym, _∙_}
+use mathlib.Core.Bool.{true, false}
+use mathlib.Core.List.{List}
 use borrow.Author.Tests.{le-leb, lt-leb, leb-true}
 use lib.Dec.{leb}
-use lib.ListN.{length, drop}
-use Rattle.algebra.specs.Buffers.{Wrote}
-use Rattle.algebra.proofs.Writing.{counts, in-front}
-use Rattle.records.specs.declared.JobWritten.{JobWritten}
+use lib.ListN.{length}
 use Rattle.records.specs.declared.Verdict.{Verdict}
 use Rattle.meaning.specs.Refusals.{accepted, refused, test, _⨾_, room}
 use Rattle.meaning.specs.Calls.{given}
 use Rattle.meaning.specs.File.{readVerdict}
-use Rattle.meaning.specs.Edition2.{startAt, fourOf, optionalAt, readVerdict2, putAnswer, putAfter, toSecondVerdict, toFirstVerdict}
+use Rattle.meaning.specs.Edition2.{startAt, fourOf, optionalAt, readVerdict2, toSecondVerdict, toFirstVerdict}
 use Rattle.laws.proofs.Chains.{opened, held}
 use Rattle.verdicts.proofs.Told.{refusing}
 
@@ -60,6 +56,7 @@ module _ (s : List ℕ) (space : ℕ) where
   pub first-room : toFirstVerdict s space ≡ accepted → (readVerdict2 s ≡ accepted) × (length (fourOf s) ≤ space)
   unfolding toFirstVerdict
   first-room e =
-      let a = opened (readVerdict2 s ⨾ test (leb (length s) (optionalAt s)) 13 (optionalAt s)) (room space (length (fourOf s))) e in
-      (opened (readVerdict2 s) (test (leb (length s) (optionalAt s)) 13 (optionalAt s)) (a .0) .0,
-      leb-true _ _ (held (leb (length (fourOf s)) space) 10 0 (a .1)))
+      let a = opened (readVerdict2 s ⨾ test (leb (length s) (optionalAt s)) 13 (optionalAt s)) (room space (length (fourOf s))) e in (
+        opened (readVerdict2 s) (test (leb (length s) (optionalAt s)) 13 (optionalAt s)) (a .0) .0,
+        leb-true _ _ (held (leb (length (fourOf s)) space) 10 0 (a .1)),
+      )

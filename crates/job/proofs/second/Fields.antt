@@ -2,23 +2,21 @@
 -- that the four fields are. Assumes nothing.
 use Prim.Native.Nat.{ℕ, _+_, _-_, _≤_, _<_}
 use mathlib.Core.Path.{_≡_, refl, sym, ap, _∙_}
-use mathlib.Core.Bool.{Bool, true, false}
+use mathlib.Core.Bool.{true, false}
 use mathlib.Core.List.{List}
 use native.Mathlib.Omega.{arith}
 use borrow.Author.Tests.{le-leb, lt-leb, eq-eqb, ne-eqb}
-use lib.Dec.{eqb, leb}
 use lib.IntN.{ℤ}
 use lib.ListN.{length, take, drop}
 use Rattle.records.specs.declared.Head.{Head}
 use Rattle.records.specs.declared.Held.{Held}
-use Rattle.records.specs.declared.JobRead.{JobRead}
 use Rattle.records.specs.declared.SecondRead.{SecondRead}
 use Rattle.records.specs.declared.Solved.{Solved}
 use Rattle.records.specs.declared.Verdict.{Verdict}
 use Rattle.records.specs.declared.Verdict.the-variants.{Accepted, Refused}
-use Rattle.meaning.specs.Refusals.{accepted, refused, place, test, _⨾_}
+use Rattle.meaning.specs.Refusals.{accepted, refused}
 use Rattle.meaning.specs.Calls.{given, solvedUnder, wordsUnder, valuesUnder, deviationsUnder}
-use Rattle.meaning.specs.File.{headOf, blocksAt, readingsAt, blocksOf, readingsOf, setOf, sumOf, fields, readVerdict, solveVerdict}
+use Rattle.meaning.specs.File.{headOf, blocksOf, readingsOf, setOf, sumOf, fields, solveVerdict}
 use Rattle.meaning.specs.Edition2.{
   fileLimit2,
   startAt,
@@ -36,7 +34,7 @@ use Rattle.meaning.specs.Edition2.{
   readAnswer2,
   solveVerdict2,
 }
-use Rattle.laws.proofs.Edition2.{four-part, four-inside, given-moved, whole, read-moved2, solve-moved2, file-job2}
+use Rattle.laws.proofs.Edition2.{four-part, given-moved, solve-moved2}
 use Rattle.verdicts.specs.Zeros.{noJob, noSolution}
 use Rattle.verdicts.proofs.Told.{refusing}
 use Rattle.fields.specs.Contents.{heldIn}

@@ -1,10 +1,9 @@
 -- How large the place of a refusal of a file of the first edition is, so that it can be moved. Assumes nothing.
 use Prim.Native.Nat.{ℕ, _+_, _*_, _≤_}
-use mathlib.Core.Path.{_≡_, refl, sym, ap, _∙_}
+use mathlib.Core.Path.{_≡_, refl, sym, ap}
 use mathlib.Core.Bool.{Bool, true, false}
 use mathlib.Core.List.{List}
 use native.Mathlib.Omega.{arith}
-use borrow.Author.Tests.{eq-eqb}
 use lib.Dec.{eqb, leb}
 use lib.ListN.{length, getD}
 use Rattle.records.specs.declared.Verdict.{Verdict}
@@ -12,7 +11,7 @@ use Rattle.records.specs.declared.Verdict.the-variants.{Accepted, Refused}
 use Rattle.meaning.specs.Design.{objects, blocks, listLength, sized}
 use Rattle.meaning.specs.Refusals.{accepted, refused, place, test, _⨾_, sizes}
 use Rattle.meaning.specs.Calls.{rooms}
-use Rattle.meaning.specs.File.{big, bodyLength, fieldVerdict, headOf, secondAt, thirdAt, fourthAt, endAt, readingsAt, fields, placed, readVerdict, solveVerdict}
+use Rattle.meaning.specs.File.{big, fieldVerdict, headOf, secondAt, thirdAt, fourthAt, endAt, fields, placed, readVerdict, solveVerdict}
 use Rattle.laws.proofs.Chains.{opened}
 use Rattle.laws.proofs.Writing.{fielded}
 use Rattle.job.specs.Direct.{placeLimit, movedLimit, directVerdict}

@@ -1,6 +1,6 @@
 -- The verdict of writing the second edition, by the first of its tests that refuses, or by none; and what an accepted one has. Assumes nothing.
-use Prim.Native.Nat.{ℕ, _+_, _*_, _≤_, _<_}
-use mathlib.Core.Path.{_≡_, refl, sym, ap, _∙_}
+use Prim.Native.Nat.{ℕ, _≤_, _<_}
+use mathlib.Core.Path.{_≡_, refl, sym, _∙_}
 use mathlib.Core.Bool.{Bool, true, false, false≢true, _||_}
 use mathlib.Core.List.{List}
 use native.Mathlib.Omega.{arith}
@@ -11,7 +11,7 @@ use lib.ListN.{length}
 use Rattle.records.specs.declared.Head.{Head}
 use Rattle.records.specs.declared.Verdict.{Verdict}
 use Rattle.meaning.specs.Design.{objects, blocks, sized, listLength}
-use Rattle.meaning.specs.Refusals.{accepted, refused, test, _⨾_, room, sizes, lengthIs}
+use Rattle.meaning.specs.Refusals.{accepted, refused, _⨾_, room, sizes, lengthIs}
 use Rattle.meaning.specs.Calls.{given, slices, contents, jobVerdict}
 use Rattle.meaning.specs.Edition2.{namesLength, namesFit, fileLength2, writeVerdict2}
 use Rattle.laws.proofs.Chains.{opened, held, accepts, goes-on}

@@ -2,7 +2,7 @@
 -- else what `to_first` gave is told and laid. Assumes nothing.
 use mathlib.Core.List.{List}
 use mathlib.Core.Path.{_≡_, refl, sym, ap, _∙_}
-use Prim.Native.Nat.{ℕ, _+_, _<_, _≤_}
+use Prim.Native.Nat.{ℕ, _<_, _≤_}
 use native.Mathlib.Omega.{arith}
 use borrow.Author.Needs.{needs}
 use denote.Ref.{now}
@@ -14,7 +14,7 @@ use Rattle.laws.proofs.Chains.{opened}
 use Rattle.laws.proofs.Files.{filed, file-job}
 use Rattle.laws.proofs.Edition2.{file-job2}
 use Rattle.api.specs.Second.{movedToFirst}
-use Rattle.meaning.specs.Refusals.{_⨾_, refused, test, accepted}
+use Rattle.meaning.specs.Refusals.{_⨾_, refused, test}
 use Rattle.records.specs.declared.JobWritten.{JobWritten}
 use Rattle.records.specs.declared.Verdict.{Verdict}
 use Rattle.slots.specs.Answers.{writtenCall}

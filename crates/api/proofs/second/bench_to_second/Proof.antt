@@ -6,13 +6,12 @@ use Prim.Native.Nat.{ℕ, _+_, _<_, _≤_}
 use native.Mathlib.Omega.{arith}
 use borrow.Author.Needs.{needs}
 use denote.Ref.{now}
-use lib.Dec.{leb}
 use lib.ListN.{length}
 use Rattle.meaning.specs.Calls.{given}
 use Rattle.meaning.specs.File.{readVerdict}
 use Rattle.meaning.specs.Edition2.{toSecondVerdict, toSecondAfter}
 use Rattle.api.specs.Second.{movedToSecond}
-use Rattle.meaning.specs.Refusals.{_⨾_, refused, test, accepted}
+use Rattle.meaning.specs.Refusals.{_⨾_, refused}
 use Rattle.records.specs.declared.JobWritten.{JobWritten}
 use Rattle.records.specs.declared.Verdict.{Verdict}
 use Rattle.slots.specs.Answers.{writtenCall}

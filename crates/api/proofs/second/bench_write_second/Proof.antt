@@ -2,11 +2,10 @@
 -- else what `write_second` gave is told and laid. Assumes nothing.
 use mathlib.Core.List.{List}
 use mathlib.Core.Path.{_≡_, refl, sym, ap, _∙_}
-use Prim.Native.Nat.{ℕ, _+_, _<_, _≤_}
+use Prim.Native.Nat.{ℕ, _<_, _≤_}
 use native.Mathlib.Omega.{arith}
 use borrow.Author.Needs.{needs}
 use denote.Ref.{now}
-use lib.Dec.{leb}
 use lib.ListN.{length}
 use mir.Facts.{toZ-ofZ}
 use Rattle.records.specs.declared.Head.{Head}
@@ -14,7 +13,7 @@ use Rattle.meaning.specs.Calls.{given, slices, contents}
 use Rattle.meaning.specs.Edition2.{namesFit, fileLength2, writeVerdict2, writtenAfter2}
 use Rattle.api.specs.Heads.{headFrom}
 use Rattle.api.specs.Second.{secondWritten}
-use Rattle.meaning.specs.Refusals.{_⨾_, refused, test, accepted}
+use Rattle.meaning.specs.Refusals.{_⨾_, refused}
 use Rattle.records.specs.declared.JobWritten.{JobWritten}
 use Rattle.records.specs.declared.Verdict.{Verdict}
 use Rattle.slots.specs.Answers.{writtenCall}

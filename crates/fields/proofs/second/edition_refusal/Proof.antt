@@ -1,5 +1,4 @@
 -- `fields::second::edition_refusal` meets its contract: the field's own tests by what was found, then its body. Assumes nothing.
-use mathlib.Core.Path.{sym, _∙_}
 use native.Mathlib.Omega.{arith}
 use borrow.Author.Needs.{needs}
 use denote.Ref.{now}

@@ -1,11 +1,11 @@
 -- `fields::second::four_end` meets its contract: by their sizes the four fields end within the bytes, or the bytes end before. Assumes nothing.
-use mathlib.Core.Path.{_≡_, sym, ap, _∙_}
+use mathlib.Core.Path.{_≡_, ap, _∙_}
 use mathlib.Core.List.{List}
-use Prim.Native.Nat.{ℕ, _≤_}
+use Prim.Native.Nat.{ℕ}
 use native.Mathlib.Omega.{arith}
 use borrow.Author.Needs.{needs}
 use denote.Ref.{now}
-use lib.ListN.{length, take, drop}
+use lib.ListN.{drop}
 use Rattle.meaning.specs.File.{endAt}
 use Rattle.fields.proofs.second.Answers.{rest-is, end-bound, end-none, end-short, end-there}
 use Rattle.fields.proofs.second.four_end.Statement.{statement}

@@ -1,5 +1,4 @@
 -- `fields::second::misnamed` meets its contract: only the tag of the names asks for a length. Assumes nothing.
-use native.Mathlib.Omega.{arith}
 use borrow.Author.Needs.{needs}
 use Rattle.fields.proofs.second.Answers.{misnamed-no}
 use Rattle.fields.proofs.second.misnamed.Statement.{statement}

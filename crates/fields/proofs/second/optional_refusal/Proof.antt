@@ -1,13 +1,12 @@
 -- `fields::second::optional_refusal` meets its contract: at the head of a turn the optional fields from the place on come to the verdict on all.
 -- Assumes nothing.
-use Prim.Native.Nat.{ℕ, _+_, _-_, _≤_, _<_}
-use mathlib.Core.Path.{_≡_, refl, sym, subst, _∙_}
+use Prim.Native.Nat.{ℕ, _+_, _-_, _≤_}
+use mathlib.Core.Path.{_≡_, refl, sym, _∙_}
 use mathlib.Core.List.{List}
 use native.Mathlib.Omega.{arith}
 use borrow.Author.Needs.{needs}
 use denote.Ref.{now}
-use lib.ListN.{length, getD}
-use Rattle.meaning.specs.File.{big}
+use lib.ListN.{length}
 use Rattle.meaning.specs.Edition2.{namesTag, optionals, optionalVerdict}
 use Rattle.meaning.specs.Refusals.{accepted}
 use Rattle.verdicts.proofs.Told.{accepting}

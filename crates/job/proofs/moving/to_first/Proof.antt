@@ -5,7 +5,7 @@ use Prim.Native.Nat.{ℕ, _-_, _≤_}
 use native.Mathlib.Omega.{arith}
 use borrow.Author.Needs.{needs}
 use denote.Ref.{now}
-use lib.ListN.{length, take, drop}
+use lib.ListN.{length}
 use Rattle.algebra.proofs.Writing.{named}
 use Rattle.meaning.specs.Refusals.{accepted}
 use Rattle.meaning.specs.Edition2.{fourOf, toFirstVerdict}

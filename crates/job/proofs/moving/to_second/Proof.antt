@@ -1,11 +1,10 @@
 -- `job::moving::to_second` meets its contract: refused, nothing is written; accepted, the edition field and the file stand in front. Assumes nothing.
-use mathlib.Core.Path.{_≡_, sym, _∙_}
+use mathlib.Core.Path.{sym, _∙_}
 use native.Mathlib.Omega.{arith}
 use borrow.Author.Needs.{needs}
 use denote.Ref.{now}
 use lib.ListN.{length}
 use Rattle.algebra.proofs.Writing.{_then_, named}
-use Rattle.meaning.specs.Refusals.{accepted}
 use Rattle.meaning.specs.Edition2.{secondOf, toSecondVerdict}
 use Rattle.laws.proofs.Putting.{unput, put}
 use Rattle.verdicts.proofs.Told.{accepting}

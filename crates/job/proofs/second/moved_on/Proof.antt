@@ -1,5 +1,5 @@
 -- `job::second::moved_on` meets its contract: the number tells whether the place is moved. Assumes nothing.
-use mathlib.Core.Path.{ap, _∙_}
+use mathlib.Core.Path.{ap}
 use native.Mathlib.Omega.{arith}
 use borrow.Author.Needs.{needs}
 use Rattle.records.specs.declared.Verdict.{Verdict}

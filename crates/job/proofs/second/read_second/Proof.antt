@@ -8,12 +8,10 @@ use denote.Ref.{now}
 use lib.ListN.{length, take, drop}
 use Rattle.algebra.proofs.Signs.{read-back}
 use Rattle.records.specs.declared.Held.{Held}
-use Rattle.records.specs.declared.SecondRead.{SecondRead}
 use Rattle.meaning.specs.Refusals.{accepted}
-use Rattle.meaning.specs.File.{blocksAt, thirdAt, readingsAt}
-use Rattle.meaning.specs.Edition2.{fileLimit2, fourOf, namesAt, optionalAt, readVerdict2}
+use Rattle.meaning.specs.File.{readingsAt}
+use Rattle.meaning.specs.Edition2.{fourOf, namesAt, readVerdict2}
 use Rattle.laws.proofs.Edition2.{Whole, whole, file-job2, four-inside}
-use Rattle.verdicts.specs.Zeros.{noJob}
 use Rattle.verdicts.proofs.Told.{accepting}
 use Rattle.fields.specs.Contents.{heldIn}
 use Rattle.job.proofs.places.Places.{third-low}

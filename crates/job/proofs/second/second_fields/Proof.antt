@@ -1,16 +1,15 @@
 -- `job::second::second_fields` meets its contract: each way out by the test that refuses, and the last by the optional fields. Assumes nothing.
-use mathlib.Core.Path.{_≡_, sym, ap, subst, _∙_}
+use mathlib.Core.Path.{_≡_, sym, ap, _∙_}
 use mathlib.Core.List.{List}
 use Prim.Native.Nat.{ℕ, _-_, _≤_}
 use native.Mathlib.Omega.{arith}
 use borrow.Author.Needs.{needs}
 use denote.Ref.{now}
 use lib.ListN.{length, take, drop}
-use Rattle.records.specs.declared.Verdict.{Verdict}
 use Rattle.meaning.specs.Refusals.{accepted, place}
 use Rattle.meaning.specs.File.{headOf, fields}
-use Rattle.meaning.specs.Edition2.{fileLimit2, edition, fourOf, movedOn, namesLength, optionalAt}
-use Rattle.laws.proofs.Edition2.{edited, four-inside, part-most, moved-accepted}
+use Rattle.meaning.specs.Edition2.{fileLimit2, edition, fourOf, movedOn, namesLength}
+use Rattle.laws.proofs.Edition2.{edited, four-inside, moved-accepted}
 use Rattle.verdicts.proofs.Told.{accepting}
 use Rattle.job.proofs.second.Fields.{part-is, too-long, edition-refuses, four-refuses, optional-counts, optional-is}
 use Rattle.job.proofs.second.Nearness.{fields-place}

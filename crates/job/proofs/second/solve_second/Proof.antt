@@ -45,8 +45,12 @@ solved-on-requires c κs =
     let e = v .before .before .before .before .before in
     let a = e .before .before .before .before .before .before .args in
     let r = rw (four e) at (v .solve .ensures) in
-    omega (arith, ap (λ (x : Solved). place (x .verdict)) (r .0), solve-place (fourOf (bytes e)) (whole (bytes e) (there e) .four)
-    (length (now (a .words))) (length (now (a .values))) (length (now (a .deviations))))
+    omega (
+      arith,
+      ap (λ (x : Solved). place (x .verdict)) (r .0),
+      solve-place (fourOf (bytes e)) (whole (bytes e) (there e) .four)
+          (length (now (a .words))) (length (now (a .values))) (length (now (a .deviations))),
+    )
 
 returns-2 : tie.Need-returns-2
 returns-2 c =

@@ -1,5 +1,4 @@
 -- `writing::second::names_room` meets its contract: a field has three bytes before its body. Assumes nothing.
-use mathlib.Core.List.{List, _∷_, _++_}
 use native.Mathlib.Omega.{arith}
 use borrow.Author.Needs.{needs}
 use denote.Ref.{now}

@@ -44,7 +44,8 @@
  * Of the stack bench_listing takes about 99 KB; bench_values, bench_value_of, bench_deviation_of, bench_q and bench_spread 94 KB;
  * bench_deviations and bench_analyse 83 KB; bench_read and bench_solve 68 KB; bench_company, bench_opposition, bench_judge,
  * bench_refusal and bench_write 62 KB; bench_total and bench_sum_of_squared_totals 22 KB; the others less than 1 KB. A thread that
- * makes any of them needs about 104 KB with what the thread itself takes. That is measured with the archive for x86-64, not proved.
+ * makes any of them needs about 104 KB with what the thread itself takes. That is measured with the archive for x86-64, not proved;
+ * the calls on files of the second edition were not measured: each makes the call on its four fields, and adds little to what that takes.
  */
 #ifndef BENCH_H
 #define BENCH_H

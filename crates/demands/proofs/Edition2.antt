@@ -40,6 +40,7 @@ use Rattle.meaning.specs.Edition2.{
 use Rattle.laws.proofs.Chains.{opened, held, accepts, test-yes, given-no}
 use Rattle.laws.proofs.Writing.{one-file}
 use Rattle.laws.proofs.Edition2.{four-part, four-inside, four-second, whole, file-job2, to-second, second-text, to-first, first-reader}
+use Rattle.demands.proofs.FourFields.{four-places}
 use Rattle.demands.specs.Job.{jobIn}
 use Rattle.demands.specs.Edition2.{inSecond, inFirst, FirstEdition, SecondEdition}
 
@@ -162,6 +163,7 @@ second-edition s = record {
   order = ap (λ (v : Verdict). v ⨾ movedOn (fields (fourOf s)) ⨾ optionalFields s ⨾ movedOn (readVerdict (fourOf s)))
       (joined (test (leb (length s) 16384) 4 0) (fieldVerdict s 0 16 1) (test (eqb (getD s 3 0) 2) 12 3));
   too-long = λ l. rw (lt-leb (length s) 16384 l) refl;
+  four-fields = four-places s;
   holds-the-four = λ e. (file-job2 s e .1, sym (four-part s));
   same-listing = λ e. ap (λ (v : Verdict). textUnder v (fourOf s)) (e ∙ sym (file-job2 s e .1));
   names = names-there s;

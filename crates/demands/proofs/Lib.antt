@@ -7,6 +7,7 @@ pub mod Papers
 pub mod Answers
 pub mod Published
 pub mod Writing
+pub mod FourFields
 pub mod Edition2
 pub mod Demands
 pub mod Rows

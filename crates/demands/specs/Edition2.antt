@@ -13,7 +13,7 @@ use mathlib.Core.Path.{_≡_}
 use Prim.Native.Nat.{ℕ, _+_, _*_, _≤_, _<_}
 use lib.Dec.{eqb, leb}
 use lib.ListN.{length, getD, take, drop}
-use Rattle.meaning.specs.Design.{objects}
+use Rattle.meaning.specs.Design.{objects, blocks, sized, listLength}
 use Rattle.meaning.specs.Refusals.{accepted, refused, test, _⨾_, room}
 use Rattle.meaning.specs.File.{big, headOf, fieldVerdict, fields, readVerdict}
 use Rattle.meaning.specs.Text.{textOf}
@@ -73,6 +73,10 @@ module _ (s : List ℕ) where
     pub order : readVerdict2 s ≡ test (leb (length s) 16384) 4 0 ⨾ fieldVerdict s 0 16 1 ⨾ test (eqb (getD s 3 0) 2) 12 3
         ⨾ movedOn (fields (fourOf s)) ⨾ optionalFields s ⨾ movedOn (readVerdict (fourOf s))
     pub too-long : 16384 < length s → readVerdict2 s ≡ refused 4 0
+    -- Then the four fields: from the fifth byte on, each refusal at its place in the file, the sizes' at 4, and no 9
+    pub four-fields : 4 ≤ length s → let h = headOf (drop 4 s) in
+        movedOn (fields (fourOf s)) ≡ fieldVerdict s 4 1 4 ⨾ test (sized h) 4 4 ⨾ fieldVerdict s 11 2 (listLength h)
+        ⨾ fieldVerdict s (14 + listLength h) 3 16 ⨾ fieldVerdict s (33 + listLength h) 4 (4 * blocks h)
     -- An accepted file holds an accepted file of the first edition, from its fifth byte on
     pub holds-the-four : readVerdict2 s ≡ accepted → (readVerdict (fourOf s) ≡ accepted) × (fourOf s ≡ take (length (fourOf s)) (drop 4 s))
     pub same-listing : readVerdict2 s ≡ accepted → textOf2 s ≡ textOf (fourOf s)

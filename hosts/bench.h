@@ -30,9 +30,13 @@
  *   8 | a reading is out of range                                         | its first byte   | its index in `readings`
  *   9 | bytes follow the fourth field                                     | first such byte  | -
  *  10 | a room is too short, or slots of any kind are too few             | 0                | 0
+ *  12 | the edition is not 2                                              | that byte        | -
+ *  13 | a file that is moved to the first edition has an optional field   | its start        | -
  * A call that takes no file looks, of what it takes, for 4, then 3, 5, 6, 7, 11, 8. A file is looked at field by field: 1 for the
- * start, 2, 3, 1 for the body; 4 right after the first field; after the fourth 9; then 5, 6, 7, 11, 8. 10 comes last in every call.
- * Development, tables, totals and sums of squares need no balance: no 6. Deviations, Q and spread take no restraint: no 7, no 11.
+ * start, 2, 3, 1 for the body; 4 right after the first field; after the fourth 9; then 5, 6, 7, 11, 8. 10 comes last in every call. A file of the
+ * second edition is first looked at for its length, 4 at 0, and its edition field, after whose own tests 12; in the place of 9 stand the
+ * optional fields, for each 1, 2 (a tag below 80 hexadecimal or not above the one before), 3 (names not 8v bytes), 1. Development,
+ * tables, totals and sums of squares need no balance: no 6. Deviations, Q and spread take no restraint: no 7, no 11.
  *
  * Sizes: n from 3 to 50; flag 0 to 3; v at most 50; p at least 1, 2p at most v; m from 1 to 64; b = m*n at most 1,300; readings within
  * +-200,000,000; the accepted sum within +-1,000,000,000,000.
@@ -45,7 +49,7 @@
  * bench_spread 94 KB; bench_deviations and bench_analyse 83 KB; bench_read and bench_solve 68 KB; bench_company, bench_opposition,
  * bench_judge, bench_refusal and bench_write 62 KB; bench_total and bench_sum_of_squared_totals 22 KB; the others less than 1 KB. A
  * thread that makes any of them needs about 104 KB with what the thread itself takes. That is measured with the archive for x86-64,
- * not proved.
+ * not proved; the calls on files of the second edition were not measured: each makes the call on its four fields, and adds little to what that takes.
  */
 #ifndef BENCH_H
 #define BENCH_H
@@ -63,7 +67,7 @@ extern "C" {
 #define BENCH_PLACE(returned) ((uint64_t)(returned) >> 16)
 
 /* Rooms that are enough for every job. */
-enum { BENCH_WORDS = 2600, BENCH_TABLE = 2500, BENCH_VALUES = 50, BENCH_DEVIATIONS = 1300, BENCH_FILE = 6584, BENCH_TEXT = 65536 };
+enum { BENCH_WORDS = 2600, BENCH_TABLE = 2500, BENCH_VALUES = 50, BENCH_DEVIATIONS = 1300, BENCH_FILE = 6584, BENCH_FILE_SECOND = 16384, BENCH_TEXT = 65536 };
 
 /* `answer` of bench_judge; bench_analyse and bench_solve have more behind it. */
 enum {
@@ -270,6 +274,46 @@ uint64_t bench_write(size_t n, size_t flag, size_t p, size_t m, const uint8_t *b
 uint64_t bench_listing(const uint8_t *bytes, size_t bytes_length,
                        uint8_t *out, size_t out_length,
                        uint64_t *answer, size_t answer_length);
+
+/* ---- files of the second edition: the field 10 00 01 02 (hexadecimal), the four fields, then optional fields with rising tags from 80
+ * hexadecimal on. Tag 80 holds the names, eight bytes for each object; others are kept and skipped. */
+
+/* Reads a file: `signed_slots` and `answer` as of bench_read, places in this file, and in BENCH_NAMES_AT the byte at which the names start,
+ * 0 where there are none. */
+enum { BENCH_NAMES_AT = 7, BENCH_READ_SECOND_SLOTS = 8, BENCH_NAME = 8 };
+uint64_t bench_read_second(const uint8_t *bytes, size_t bytes_length,
+                           int64_t *signed_slots, size_t signed_slots_length,
+                           uint64_t *answer, size_t answer_length);
+
+/* Works a file out, as bench_solve does. */
+uint64_t bench_solve_second(const uint8_t *bytes, size_t bytes_length,
+                            uint64_t *words, size_t words_length,
+                            int64_t *values, size_t values_length,
+                            int64_t *deviations, size_t deviations_length,
+                            uint64_t *answer, size_t answer_length,
+                            double *real, size_t real_length);
+
+/* Writes the file of a job to the front of `out`, 36 + 2pm + 4b bytes and, where there are names, 3 + 8v more. `names` is empty, or has eight
+ * bytes for each object, else 3. */
+uint64_t bench_write_second(size_t n, size_t flag, size_t p, size_t m, const uint8_t *blocks, size_t blocks_length,
+                            uint64_t set, int64_t sum, const int32_t *readings, size_t readings_length,
+                            const uint8_t *names, size_t names_length,
+                            uint8_t *out, size_t out_length,
+                            uint64_t *answer, size_t answer_length);
+
+/* Moves a file of the first edition to the second: four bytes more. Moves one of the second to the first, 13 where it has an optional field.
+ * There and back gives the same bytes. */
+uint64_t bench_to_second(const uint8_t *bytes, size_t bytes_length,
+                         uint8_t *out, size_t out_length,
+                         uint64_t *answer, size_t answer_length);
+uint64_t bench_to_first(const uint8_t *bytes, size_t bytes_length,
+                        uint8_t *out, size_t out_length,
+                        uint64_t *answer, size_t answer_length);
+
+/* Writes the text for a file to the front of `out`, as bench_listing does: the listing of its job, without the names. */
+uint64_t bench_listing_second(const uint8_t *bytes, size_t bytes_length,
+                              uint8_t *out, size_t out_length,
+                              uint64_t *answer, size_t answer_length);
 
 #ifdef __cplusplus
 }

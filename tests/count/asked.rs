@@ -3,6 +3,7 @@
 use crate::compare::HEADS;
 use crate::design::{balance, develop, Balance, Block};
 use crate::job::{self, first_far, first_unclean, is_one_standard, is_restraint, members, Cursor, Draft, Head, Job, Refusal, READING_LIMIT, SUM_LIMIT};
+use crate::second::{self, Second};
 use crate::seed::Seed;
 use crate::solve::{solve, Results};
 use std::cell::OnceCell;
@@ -34,6 +35,9 @@ pub struct Asked {
     pub place: usize,
     pub tag: u8,
     pub length: usize,
+    /// a file of the second edition, and names
+    pub second: Vec<u8>,
+    pub names: Vec<u8>,
     worked_out: WorkedOut,
 }
 
@@ -44,13 +48,14 @@ struct WorkedOut {
     balance: OnceCell<Option<Balance>>,
     solved: OnceCell<Solved>,
     file: OnceCell<Result<Solved, Refusal>>,
+    second: OnceCell<Result<(Second, Results), Refusal>>,
 }
 
 impl Asked {
     pub fn new(about: String, draft: Draft, bytes: Vec<u8>) -> Asked {
         let head = Head { n: draft.n.into(), flag: draft.flag.into(), p: draft.p.into(), m: draft.m.into() };
         let Draft { objects, readings, restraint: set, sum, .. } = draft;
-        Asked { about, head, objects, readings, set, sum, bytes, number: 0, place: 0, tag: 0, length: 0, worked_out: WorkedOut::default() }
+        Asked { about, head, objects, readings, set, sum, bytes, number: 0, place: 0, tag: 0, length: 0, second: vec![], names: vec![], worked_out: WorkedOut::default() }
     }
 
     /// The developed blocks, of clean objects.
@@ -94,6 +99,11 @@ impl Asked {
         self.worked_out.file.get_or_init(|| job::read(&self.bytes).map(Solved::of)).as_ref().map_err(|refusal| *refusal)
     }
 
+    pub fn second_file(&self) -> Result<&(Second, Results), Refusal> {
+        let worked_out = || second::read(&self.second).map(|file| { let results = solve(&file.job); (file, results) });
+        self.worked_out.second.get_or_init(worked_out).as_ref().map_err(|refusal| *refusal)
+    }
+
     /// The file of the parts, which are those of a job that nothing refuses.
     pub fn written(&self) -> Vec<u8> {
         let [n, flag, p, m] = [self.head.n, self.head.flag, self.head.p, self.head.m].map(|size| size as u8);
@@ -107,6 +117,7 @@ pub enum Test {
     Sizes,
     BlocksLength,
     ReadingsLength,
+    NamesLength,
     Objects,
     InitialBlock,
     Object,
@@ -117,16 +128,19 @@ pub enum Test {
     Readings,
     Field,
     File,
+    Second,
+    Optional,
 }
 
 /// What looks at an ask, and the refusal that it finds.
 type Look = fn(&Asked) -> Option<Refusal>;
 
 /// All tests in the order of the request, with the numbers that each refuses by; a call makes those of what it takes. 10, for short rooms, comes after all.
-pub const ORDER: [(Test, &[u8], Look); 13] = [
+pub const ORDER: [(Test, &[u8], Look); 16] = [
     (Test::Sizes, &[4], |asked| unless(asked.head.in_size(), 4, 0)),
     (Test::BlocksLength, &[3], |asked| unless(asked.objects.len() == 2 * asked.head.p * asked.head.m, 3, 0)),
     (Test::ReadingsLength, &[3], |asked| unless(asked.readings.len() == asked.head.blocks(), 3, 0)),
+    (Test::NamesLength, &[3], |asked| unless(asked.names.is_empty() || asked.names.len() == 8 * asked.head.objects(), 3, 0)),
     (Test::Objects, &[5], |asked| at(5, first_unclean(&asked.head, &asked.objects))),
     (Test::InitialBlock, &[5], |asked| unless(asked.number < asked.head.m, 5, asked.number)),
     (Test::Object, &[5], |asked| unless(asked.number < asked.head.objects(), 5, asked.number)),
@@ -137,6 +151,8 @@ pub const ORDER: [(Test, &[u8], Look); 13] = [
     (Test::Readings, &[8], |asked| at(8, first_far(&asked.wide_readings()))),
     (Test::Field, &[1, 2, 3], |asked| Cursor::at(&asked.bytes, asked.place).field(asked.tag, asked.length).err()),
     (Test::File, &[1, 2, 3, 4, 5, 6, 7, 8, 9, 11], |asked| asked.file().err()),
+    (Test::Second, &[1, 2, 3, 4, 5, 6, 7, 8, 11, 12], |asked| asked.second_file().err()),
+    (Test::Optional, &[13], |asked| second::to_first(&asked.second).err()),
 ];
 
 fn unless(good: bool, number: u8, place: usize) -> Option<Refusal> {

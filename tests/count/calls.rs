@@ -19,11 +19,13 @@ mod compare;
 mod damage;
 mod design;
 mod field;
+mod editions;
 mod job;
 mod listing;
 mod papers;
 mod parts;
 mod publishing;
+mod second;
 mod seed;
 mod solve;
 mod stored;
@@ -87,6 +89,12 @@ macro_rules! passed {
     };
     ($name:ident $asked:ident $lent:ident [$($type:ty,)*] [$($value:expr,)*] $rooms:tt bytes $($rest:ident)*) => {
         passed!($name $asked $lent [$($type,)* *const u8, usize,] [$($value,)* $asked.bytes.as_ptr(), $asked.bytes.len(),] $rooms $($rest)*)
+    };
+    ($name:ident $asked:ident $lent:ident [$($type:ty,)*] [$($value:expr,)*] $rooms:tt second $($rest:ident)*) => {
+        passed!($name $asked $lent [$($type,)* *const u8, usize,] [$($value,)* $asked.second.as_ptr(), $asked.second.len(),] $rooms $($rest)*)
+    };
+    ($name:ident $asked:ident $lent:ident [$($type:ty,)*] [$($value:expr,)*] $rooms:tt names $($rest:ident)*) => {
+        passed!($name $asked $lent [$($type,)* *const u8, usize,] [$($value,)* $asked.names.as_ptr(), $asked.names.len(),] $rooms $($rest)*)
     };
     ($name:ident $asked:ident $lent:ident [$($type:ty,)*] [$($value:expr,)*] $rooms:tt field $($rest:ident)*) => {
         passed!($name $asked $lent [$($type,)* usize, u8, usize,] [$($value,)* $asked.place, $asked.tag, $asked.length,] $rooms $($rest)*)
@@ -169,7 +177,32 @@ const CALLS: &[Call] = &[
     call!(bench_listing(bytes; out answer), [], |asked| {
         text(asked.file().map_or_else(listing::refused, |solved| listing::accepted(&solved.job, &solved.results)).into_bytes())
     }),
+    call!(bench_read_second(second; signed_slots answer), [&[Test::Second]], |asked| {
+        let (file, _) = accepted_second(asked);
+        let job = &file.job;
+        let sizes = [job.head.n, job.head.flag, job.head.p, job.head.m, 14, file.optional - 4 * job.readings.len()];
+        let sizes = sizes.iter().map(|size| *size as u64);
+        vec![whole(&[job.sum]), front(sizes.chain([word(&job.restraint), file.names.unwrap_or(0) as u64]).collect())]
+    }),
+    call!(bench_solve_second(second; words values deviations answer real), [&[Test::Second]], |asked| {
+        let (file, results) = accepted_second(asked);
+        everything_of(&file.job, results)
+    }),
+    call!(
+        bench_write_second(head blocks restraint readings names; out answer),
+        [DESIGN, READINGS, BALANCE, RESTRAINT, &[Test::NamesLength]],
+        |asked| text(second::with_names(&asked.written(), &asked.names))
+    ),
+    call!(bench_to_second(bytes; out answer), [&[Test::File]], |asked| text(second::with_names(&asked.bytes, &[]))),
+    call!(bench_to_first(second; out answer), [&[Test::Second, Test::Optional]], |asked| text(second::to_first(&asked.second).expect("no optional field"))),
+    call!(bench_listing_second(second; out answer), [], |asked| {
+        text(asked.second_file().map_or_else(listing::refused, |(file, results)| listing::accepted(&file.job, results)).into_bytes())
+    }),
 ];
+
+fn accepted_second(asked: &Asked) -> &(second::Second, Results) {
+    asked.second_file().expect("an accepted file")
+}
 
 fn accepted_file(asked: &Asked) -> &Solved {
     asked.file().expect("an accepted file")
@@ -238,6 +271,10 @@ fn spread(results: &Results) -> Vec<u64> {
 }
 
 fn everything(Solved { job, results }: &Solved) -> Vec<Left> {
+    everything_of(job, results)
+}
+
+fn everything_of(job: &job::Job, results: &Results) -> Vec<Left> {
     let answer = [whole(&parameters(&job.head, &job.blocks, &job.balance)).entries, whole(&[results.denominator]).entries, spread(results)].concat();
     vec![front(words(&job.blocks)), whole(&results.numerators), whole(&results.deviations), front(answer), real(results.spread.unwrap_or(0), 100)]
 }
@@ -468,9 +505,12 @@ fn main() -> ExitCode {
     let mut tallies: Vec<Tally> = CALLS.iter().map(|_| Tally::default()).collect();
     let mut changed = 0;
     for (mut asked, index) in jobs(seed, count).zip(0..) {
-        let lent = (asked.objects.clone(), asked.readings.clone(), asked.bytes.clone());
+        let mut edition = Seed::new(seed + 3, index);
+        asked.second = editions::made(&asked.bytes, &mut edition);
+        asked.names = editions::names(&asked.bytes, &mut edition);
+        let lent = (asked.objects.clone(), asked.readings.clone(), asked.bytes.clone(), asked.second.clone(), asked.names.clone());
         compare_all(&mut asked, &mut Seed::new(seed + 2, index), spoiled, &mut tallies);
-        changed += u64::from(lent != (asked.objects, asked.readings, asked.bytes));
+        changed += u64::from(lent != (asked.objects, asked.readings, asked.bytes, asked.second, asked.names));
     }
     let passed = CALLS.iter().zip(&tallies).filter(|(call, tally)| call.told(tally)).count();
     let mut failed = CALLS.len() - passed;

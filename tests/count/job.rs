@@ -18,7 +18,7 @@ pub struct Refusal {
     pub place: usize,
 }
 
-fn refused<T>(number: u8, place: usize) -> Result<T, Refusal> {
+pub fn refused<T>(number: u8, place: usize) -> Result<T, Refusal> {
     Err(Refusal { number, place })
 }
 
@@ -144,11 +144,16 @@ impl<'a> Cursor<'a> {
 
 /// The job in these bytes, or the first refusal in file order.
 pub fn read(bytes: &[u8]) -> Result<Job, Refusal> {
-    let mut cursor = Cursor::at(bytes, 0);
+    read_fields(Cursor::at(bytes, 0), |_, place| if place < bytes.len() { refused(9, place) } else { Ok(()) })
+}
+
+/// The job in the four fields from a cursor on, of either edition; what must hold of the bytes after them is looked at before what stands in them.
+pub fn read_fields(mut cursor: Cursor, after: impl FnOnce(&Head, usize) -> Result<(), Refusal>) -> Result<Job, Refusal> {
+    let start = cursor.place;
     let sizes = cursor.field(1, 4)?;
     let head = Head { n: sizes[0].into(), flag: sizes[1].into(), p: sizes[2].into(), m: sizes[3].into() };
     if !head.in_size() {
-        return refused(4, 0);
+        return refused(4, start);
     }
     let objects_place = cursor.place + 3;
     let objects = cursor.field(2, 2 * head.p * head.m)?;
@@ -156,9 +161,7 @@ pub fn read(bytes: &[u8]) -> Result<Job, Refusal> {
     let restraint = cursor.field(3, 16)?;
     let readings_place = cursor.place + 3;
     let readings = cursor.field(4, 4 * head.blocks())?;
-    if !cursor.rest.is_empty() {
-        return refused(9, cursor.place);
-    }
+    after(&head, cursor.place)?;
 
     if let Some(index) = first_unclean(&head, objects) {
         return refused(5, objects_place + index);

@@ -15,6 +15,7 @@ mod job;
 mod listing;
 mod papers;
 mod publishing;
+mod second;
 mod seed;
 mod selftest;
 mod solve;

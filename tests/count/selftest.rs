@@ -9,6 +9,7 @@ use crate::job::{self, Head, Job, READING_LIMIT};
 use crate::listing::listing;
 use crate::papers::{self, LISTS, TABLE_1, TABLE_2_TOTALS};
 use crate::publishing::{features, published, Feature};
+use crate::second;
 use crate::seed::Seed;
 use crate::solve::{nearest_even, solve, totals, Fraction};
 use crate::stored::{self, A};
@@ -40,6 +41,7 @@ pub fn selftest() -> usize {
     seeds(&mut figures);
     fields(&mut figures);
     designs(&mut figures);
+    editions(&mut figures);
     figures.0
 }
 
@@ -326,4 +328,37 @@ fn designs(figures: &mut Figures) {
     let unsound: Vec<&str> =
         LISTS.iter().filter(|list| listing(&stored::list_job(list).file()).starts_with("refused")).map(|list| list.name).collect();
     figures.same("printed lists that are refused", unsound, vec!["000-2.9.2", "000-appendix-24", "003-5.2", "003-6.2"]);
+}
+
+/// Example A in the second edition: 60 bytes, with names of eight bytes for its five objects 103; and each refusal of that edition, at its place.
+fn editions(figures: &mut Figures) {
+    let second = second::with_names(&A, &[]);
+    let names = [b'x'; 40];
+    let named = second::with_names(&A, &names);
+    figures.same("A in the second edition", (second.len(), &second[..5]), (60, &[0x10, 0, 1, 2, 1][..]));
+    figures.same("A with names", (named.len(), &named[60..63]), (103, &[0x80, 0, 40][..]));
+    figures.same("the names of A", second::read(&named).ok().and_then(|file| file.names), Some(63));
+    figures.same("A and back", second::to_first(&second).ok(), Some(A.to_vec()));
+    figures.same("the same job", second::read(&named).ok().map(|file| file.job.readings), job::read(&A).ok().map(|job| job.readings));
+    let refused = |bytes: &[u8]| second::read(bytes).err().map(|refusal| (refusal.number, refusal.place));
+    let after = |bytes: &[u8]| refused(&[&second[..], bytes].concat());
+    let changed = |place: usize, byte: u8| {
+        let mut bytes = second.clone();
+        bytes[place] = byte;
+        refused(&bytes)
+    };
+    figures.same("an edition 1 reader", job::read(&second).err().map(|refusal| (refusal.number, refusal.place)), Some((2, 0)));
+    figures.same("an edition 1 file", refused(&A), Some((2, 0)));
+    figures.same("another edition", changed(3, 1), Some((12, 3)));
+    figures.same("a size", changed(7, 2), Some((4, 4)));
+    figures.same("an object", changed(14, 5), Some((5, 14)));
+    figures.same("16,385 bytes of anything", refused(&[0; 16_385]), Some((4, 0)));
+    figures.same("16,384 bytes", after(&second::field(0x81, &[0; 16_321])), None);
+    figures.same("a byte left over", after(&[0x81]), Some((1, 60)));
+    figures.same("a tag below 80", after(&[0x7F, 0, 0]), Some((2, 60)));
+    figures.same("80 80", after(&[second::field(0x80, &names), second::field(0x80, &names)].concat()), Some((2, 103)));
+    figures.same("81 80", after(&[0x81, 0, 0, 0x80, 0, 40]), Some((2, 63)));
+    figures.same("names of 39 bytes", after(&second::field(0x80, &names[1..])), Some((3, 60)));
+    figures.same("a body past the end", after(&[0x81, 0, 1]), Some((1, 60)));
+    figures.same("back with a field", second::to_first(&named).err().map(|refusal| (refusal.number, refusal.place)), Some((13, 60)));
 }

@@ -67,6 +67,24 @@ use Rattle.api.proofs.jobs.bench_published.Reads as bench-published-rea
 use Rattle.api.proofs.jobs.bench_analyse as bench-analyse
 use Rattle.api.proofs.jobs.bench_analyse.Kinds as bench-analyse-kinds
 use Rattle.api.proofs.jobs.bench_analyse.Reads as bench-analyse-reads
+use Rattle.api.proofs.second.bench_read_second as bench-read-second
+use Rattle.api.proofs.second.bench_read_second.Kinds as bench-read-second-kinds
+use Rattle.api.proofs.second.bench_read_second.Reads as bench-read-second-reads
+use Rattle.api.proofs.second.bench_solve_second as bench-solve-second
+use Rattle.api.proofs.second.bench_solve_second.Kinds as bench-solve-second-kinds
+use Rattle.api.proofs.second.bench_solve_second.Reads as bench-solve-second-reads
+use Rattle.api.proofs.second.bench_write_second as bench-write-second
+use Rattle.api.proofs.second.bench_write_second.Kinds as bench-write-second-kinds
+use Rattle.api.proofs.second.bench_write_second.Reads as bench-write-second-reads
+use Rattle.api.proofs.second.bench_to_second as bench-to-second
+use Rattle.api.proofs.second.bench_to_second.Kinds as bench-to-second-kinds
+use Rattle.api.proofs.second.bench_to_second.Reads as bench-to-second-reads
+use Rattle.api.proofs.second.bench_to_first as bench-to-first
+use Rattle.api.proofs.second.bench_to_first.Kinds as bench-to-first-kinds
+use Rattle.api.proofs.second.bench_to_first.Reads as bench-to-first-reads
+use Rattle.api.proofs.second.bench_listing_second as bench-listing-second
+use Rattle.api.proofs.second.bench_listing_second.Kinds as bench-listing-second-kinds
+use Rattle.api.proofs.second.bench_listing_second.Reads as bench-listing-second-reads
 use Rattle.api.proofs.totals.bench_total as bench-total
 use Rattle.api.proofs.totals.bench_total.Kinds as bench-total-kinds
 use Rattle.api.proofs.totals.bench_total.Reads as bench-total-reads
@@ -263,6 +281,70 @@ module _ (κs : Lfts 7) (a : ArgsD bench-analyse.signature κs) (r q : ResD benc
     p .1 .1 .1 .1 .0 ∙ sym (e .1 .1 .1 .1 .0),
     p .1 .1 .1 .1 .1 ∙ sym (e .1 .1 .1 .1 .1),
   )
+
+-- `bench_read_second`: the answer, `signed`, `answer`
+module _ (κs : Lfts 3) (a : ArgsD bench-read-second.signature κs) (r q : ResD bench-read-second.signature κs)
+    (s t : AtExit (endedOf 3 bench-read-second-kinds.ps bench-read-second-kinds.r) κs) where
+  pub bench-read-second-determined : bench-read-second-reads.Post κs a r s → bench-read-second-reads.Post κs a q t →
+      (r ≡ q)
+      × (now (s .1 .0) ≡ now (t .1 .0))
+      × (now (s .1 .1 .0) ≡ now (t .1 .1 .0))
+  bench-read-second-determined p e = (p .0 ∙ sym (e .0), p .1 .0 ∙ sym (e .1 .0), p .1 .1 ∙ sym (e .1 .1))
+
+-- `bench_solve_second`: the answer, `words`, `values`, `deviations`, `answer`, `real`
+module _ (κs : Lfts 6) (a : ArgsD bench-solve-second.signature κs) (r q : ResD bench-solve-second.signature κs)
+    (s t : AtExit (endedOf 6 bench-solve-second-kinds.ps bench-solve-second-kinds.r) κs) where
+  pub bench-solve-second-determined : bench-solve-second-reads.Post κs a r s → bench-solve-second-reads.Post κs a q t →
+      (r ≡ q)
+      × (now (s .1 .0) ≡ now (t .1 .0))
+      × (now (s .1 .1 .0) ≡ now (t .1 .1 .0))
+      × (now (s .1 .1 .1 .0) ≡ now (t .1 .1 .1 .0))
+      × (now (s .1 .1 .1 .1 .0) ≡ now (t .1 .1 .1 .1 .0))
+      × (now (s .1 .1 .1 .1 .1 .0) ≡ now (t .1 .1 .1 .1 .1 .0))
+  bench-solve-second-determined p e = (
+    p .0 ∙ sym (e .0),
+    p .1 .0 ∙ sym (e .1 .0),
+    p .1 .1 .0 ∙ sym (e .1 .1 .0),
+    p .1 .1 .1 .0 ∙ sym (e .1 .1 .1 .0),
+    p .1 .1 .1 .1 .0 ∙ sym (e .1 .1 .1 .1 .0),
+    p .1 .1 .1 .1 .1 ∙ sym (e .1 .1 .1 .1 .1),
+  )
+
+-- `bench_write_second`: the answer, `out`, `answer`
+module _ (κs : Lfts 5) (a : ArgsD bench-write-second.signature κs) (r q : ResD bench-write-second.signature κs)
+    (s t : AtExit (endedOf 5 bench-write-second-kinds.ps bench-write-second-kinds.r) κs) where
+  pub bench-write-second-determined : bench-write-second-reads.Post κs a r s → bench-write-second-reads.Post κs a q t →
+      (r ≡ q)
+      × (now (s .1 .1 .1 .1 .1 .1 .1 .1 .1 .0) ≡ now (t .1 .1 .1 .1 .1 .1 .1 .1 .1 .0))
+      × (now (s .1 .1 .1 .1 .1 .1 .1 .1 .1 .1 .0) ≡ now (t .1 .1 .1 .1 .1 .1 .1 .1 .1 .1 .0))
+  bench-write-second-determined p e = (p .0 ∙ sym (e .0), p .1 .0 ∙ sym (e .1 .0), p .1 .1 ∙ sym (e .1 .1))
+
+-- `bench_to_second`: the answer, `out`, `answer`
+module _ (κs : Lfts 3) (a : ArgsD bench-to-second.signature κs) (r q : ResD bench-to-second.signature κs)
+    (s t : AtExit (endedOf 3 bench-to-second-kinds.ps bench-to-second-kinds.r) κs) where
+  pub bench-to-second-determined : bench-to-second-reads.Post κs a r s → bench-to-second-reads.Post κs a q t →
+      (r ≡ q)
+      × (now (s .1 .0) ≡ now (t .1 .0))
+      × (now (s .1 .1 .0) ≡ now (t .1 .1 .0))
+  bench-to-second-determined p e = (p .0 ∙ sym (e .0), p .1 .0 ∙ sym (e .1 .0), p .1 .1 ∙ sym (e .1 .1))
+
+-- `bench_to_first`: the answer, `out`, `answer`
+module _ (κs : Lfts 3) (a : ArgsD bench-to-first.signature κs) (r q : ResD bench-to-first.signature κs)
+    (s t : AtExit (endedOf 3 bench-to-first-kinds.ps bench-to-first-kinds.r) κs) where
+  pub bench-to-first-determined : bench-to-first-reads.Post κs a r s → bench-to-first-reads.Post κs a q t →
+      (r ≡ q)
+      × (now (s .1 .0) ≡ now (t .1 .0))
+      × (now (s .1 .1 .0) ≡ now (t .1 .1 .0))
+  bench-to-first-determined p e = (p .0 ∙ sym (e .0), p .1 .0 ∙ sym (e .1 .0), p .1 .1 ∙ sym (e .1 .1))
+
+-- `bench_listing_second`: the answer, `out`, `answer`
+module _ (κs : Lfts 3) (a : ArgsD bench-listing-second.signature κs) (r q : ResD bench-listing-second.signature κs)
+    (s t : AtExit (endedOf 3 bench-listing-second-kinds.ps bench-listing-second-kinds.r) κs) where
+  pub bench-listing-second-determined : bench-listing-second-reads.Post κs a r s → bench-listing-second-reads.Post κs a q t →
+      (r ≡ q)
+      × (now (s .1 .0) ≡ now (t .1 .0))
+      × (now (s .1 .1 .0) ≡ now (t .1 .1 .0))
+  bench-listing-second-determined p e = (p .0 ∙ sym (e .0), p .1 .0 ∙ sym (e .1 .0), p .1 .1 ∙ sym (e .1 .1))
 
 -- `bench_total`: the answer, `signed`
 module _ (κs : Lfts 3) (a : ArgsD bench-total.signature κs) (r q : ResD bench-total.signature κs)

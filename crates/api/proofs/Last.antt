@@ -111,6 +111,11 @@ pub written-enough : (w : JobWritten) (answer : List ℕ) → 1 ≤ length answe
 unfolding writtenCall
 written-enough w answer l = one-slot (w .verdict) answer l
 
+-- where the file has more than one byte, its tests in one byte of room are refused as without a slot
+pub one-byte : (tests : Verdict) (want : ℕ) → (tests ≡ accepted → 1 < want) → tests ⨾ room 1 want ≡ tests ⨾ ten
+one-byte Accepted want l = test-no (leb want 1) 10 0 (lt-leb want 1 (l refl))
+one-byte (Refused k at) want l = refl
+
 pub listed-short : (l : Listed) (answer : List ℕ) (len want : ℕ) → l .verdict ≡ room len want → length answer < 1 → listedCall l answer ≡ ten
 unfolding listedCall
 listed-short l answer len want v e = short accepted (room len want) v (one-ten (leb want len)) (no-slot answer e)

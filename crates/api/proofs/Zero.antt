@@ -1,8 +1,9 @@
 -- Every call returns 0 exactly where it accepts: its verdict is a chain of tests, and each test of the request's table has a number from 1 on.
 -- `told-zero` of crates/slots says it of every verdict that is `Numbered`, which is shown here of the verdict of every exported call.
 -- Assumes nothing.
-use Prim.Native.Nat.{ℕ, _+_, _*_, _^_}
-use mathlib.Core.Bool.{_&&_}
+use Prim.Native.Nat.{ℕ, zero, suc, _+_, _*_, _^_}
+use mathlib.Core.Bool.{Bool, true, false, cond, not, _&&_, _||_}
+use mathlib.Core.Path.{refl}
 use mathlib.Core.List.{List}
 use lib.Dec.{eqb, ltb, leb}
 use lib.IntN.{ℤ, natAbs}
@@ -65,12 +66,34 @@ use Rattle.meaning.specs.File.{
 }
 use Rattle.meaning.specs.Writing.{fileLength, writeVerdict}
 use Rattle.meaning.specs.Text.{textOf}
+use Rattle.meaning.specs.Edition2.{
+  fileLimit2,
+  edition,
+  fourOf,
+  movedOn,
+  namesTag,
+  namesLength,
+  optionalAt,
+  optionalVerdict,
+  optionals,
+  optionalFields,
+  fields2,
+  readVerdict2,
+  readAnswer2,
+  solveVerdict2,
+  textOf2,
+  fileLength2,
+  writeVerdict2,
+  toSecondVerdict,
+  toFirstVerdict,
+}
 use Rattle.slots.specs.Answers.{tableCall, judgedCall, totalCall, sumCall, valueCall, deviationCall, spreadCall, solvedCall}
-use Rattle.slots.specs.Answers.{fieldCall, readCall, writtenCall, listedCall}
+use Rattle.slots.specs.Answers.{fieldCall, readCall, secondCall, writtenCall, listedCall}
 use Rattle.laws.proofs.Chains.{refused-is-not}
 use Rattle.slots.proofs.Numbered.{Numbered, numbered-test, numbered-then}
 use Rattle.api.specs.Jobs.{analyseCall}
 use Rattle.api.specs.Files.{solveCall, fileWritten, fileListed}
+use Rattle.api.specs.Second.{secondSolveCall, secondWritten, movedToSecond, movedToFirst, secondListed}
 
 -- ---- the tests
 
@@ -262,3 +285,71 @@ module _ (s : List ℕ) where
   pub listing-numbered : (out answer : List ℕ) → Numbered (listedCall (fileListed s out) answer)
   unfolding listedCall
   listing-numbered out answer = numbered-then (room-numbered (length out) (length (textOf s))) (room-numbered (length answer) 1)
+
+-- ---- files of the second edition
+
+-- a refusal keeps its number where it is moved on
+moved-numbered : (v : Verdict) → Numbered v → Numbered (movedOn v)
+moved-numbered Accepted n = n
+moved-numbered (Refused k i) n = record { unless = λ e. absurd (refused-is-not k i (n .unless e)) }
+
+-- whichever of two it is
+either-numbered : (b : Bool) {u v : Verdict} → Numbered u → Numbered v → Numbered (cond b u v)
+either-numbered true m n = m
+either-numbered false m n = n
+
+module _ (s : List ℕ) where
+  optional-numbered : (names least at : ℕ) → Numbered (optionalVerdict s names least at)
+  unfolding optionalVerdict
+  optional-numbered names least at =
+      let start = numbered-then (numbered-test (leb (at + 3) (length s)) 0 at) (numbered-test (leb least (getD s at 0)) 1 at) in
+      let named = numbered-test (not (eqb (getD s at 0) namesTag) || eqb (big s (at + 1) 2) names) 2 at in
+      numbered-then (numbered-then start named) (numbered-test (leb (at + 3 + big s (at + 1) 2) (length s)) 0 at)
+
+  optionals-numbered : (k names least at : ℕ) → Numbered (optionals k s names least at)
+  unfolding optionals
+  optionals-numbered zero names least at = record { unless = λ e. refl }
+  optionals-numbered (suc k) names least at = either-numbered (leb (length s) at) (record { unless = λ e. refl })
+      (numbered-then (optional-numbered names least at) (optionals-numbered k names (getD s at 0 + 1) (at + 3 + big s (at + 1) 2)))
+
+  second-numbered : Numbered (readVerdict2 s)
+  unfolding readVerdict2 fields2 edition optionalFields
+  second-numbered =
+      let edited = numbered-then (field-numbered s 0 16 1) (numbered-test (eqb (getD s 3 0) 2) 11 3) in
+      let front = numbered-then (numbered-test (leb (length s) fileLimit2) 3 0) edited in
+      let four = numbered-then front (moved-numbered (fields (fourOf s)) (fields-numbered (fourOf s))) in
+      let framed = numbered-then four (optionals-numbered (length s) (namesLength (headOf (fourOf s))) namesTag (optionalAt s)) in
+      numbered-then framed (moved-numbered (readVerdict (fourOf s)) (file-numbered (fourOf s)))
+
+  pub read-second-numbered : (signed : List ℤ) (answer : List ℕ) → Numbered (secondCall (readAnswer2 s) signed answer)
+  unfolding secondCall
+  read-second-numbered signed answer = numbered-then (numbered-then second-numbered (room-numbered (length signed) 1)) (room-numbered (length answer) 8)
+
+  pub solve-second-numbered : (words : List ℕ) (values deviations : List ℤ) (answer : List ℕ) (real : List Float)
+      → Numbered (secondSolveCall s words values deviations answer real)
+  unfolding solvedCall solveVerdict2
+  solve-second-numbered words values deviations answer real =
+      let tests = numbered-then second-numbered (rooms-numbered (headOf (fourOf s)) (length words) (length values) (length deviations)) in
+      numbered-then (numbered-then tests (room-numbered (length answer) 12)) (room-numbered (length real) 1)
+
+  pub to-second-numbered : (out answer : List ℕ) → Numbered (writtenCall (movedToSecond s out) answer)
+  unfolding writtenCall toSecondVerdict
+  to-second-numbered out answer = numbered-then (numbered-then (file-numbered s) (room-numbered (length out) (4 + length s))) (room-numbered (length answer) 1)
+
+  pub to-first-numbered : (out answer : List ℕ) → Numbered (writtenCall (movedToFirst s out) answer)
+  unfolding writtenCall toFirstVerdict
+  to-first-numbered out answer =
+      let tests = numbered-then second-numbered (numbered-test (leb (length s) (optionalAt s)) 12 (optionalAt s)) in
+      numbered-then (numbered-then tests (room-numbered (length out) (length (fourOf s)))) (room-numbered (length answer) 1)
+
+  pub listing-second-numbered : (out answer : List ℕ) → Numbered (listedCall (secondListed s out) answer)
+  unfolding listedCall
+  listing-second-numbered out answer = numbered-then (room-numbered (length out) (length (textOf2 s))) (room-numbered (length answer) 1)
+
+pub write-second-numbered : (h : Head) (d : List ℕ) (y : List ℤ) (w : ℕ) (M : ℤ) (names out answer : List ℕ) →
+    Numbered (writtenCall (secondWritten h d y w M names out) answer)
+unfolding writtenCall writeVerdict2
+write-second-numbered h d y w M names out answer =
+    let named = numbered-then (slices-numbered h d y) (numbered-test (eqb (length names) 0 || eqb (length names) (namesLength h)) 2 0) in
+    let tests = numbered-then named (contents-numbered h d y w M) in
+    numbered-then (numbered-then tests (room-numbered (length out) (fileLength2 h names))) (room-numbered (length answer) 1)

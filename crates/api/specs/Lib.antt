@@ -3,3 +3,4 @@ pub mod Heads
 pub mod Rooms
 pub mod Jobs
 pub mod Files
+pub mod Second

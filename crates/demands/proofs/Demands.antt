@@ -1,10 +1,11 @@
--- What the customer signs: the three demands, each for every byte string and for every direct call, and the requests on writing jobs and
--- on fields. Each is a record of specs/, with a field for each clause of the customer's sentence; here stand the proofs, by the laws of the definitions.
+-- What the customer signs: the three demands, each for every byte string and for every direct call, and the requests on writing jobs, on fields and on the
+-- second edition. Each is a record of specs/, with a field for each clause of the customer's sentence; here stand the proofs, by the laws of the definitions.
 --     demand-1, demand-1-calls       specs/Demand1, specs/Calls      refused by number, place and order, and nothing lent is changed
 --     demand-2, demand-2-calls       specs/Demand2, specs/Answers    accepted exactly if balanced, and the paper's fractions
 --     demand-3, demand-3-calls       specs/Demand3                   the exact values are best, and the published ones near
 --     writing-jobs, writing-files    specs/Writing                   each accepted job has exactly one file (02, P1)
 --     designs-over-fields, the-fields    specs/Fields                what the addition of a field is, and what is refused (02, P4)
+--     files-of-the-first-edition, files-of-the-second-edition    specs/Edition2    moved from one edition to the other (02, P7)
 -- Assumes nothing.
 use mathlib.Core.List.{List}
 use mathlib.Core.Path.{refl, ap}
@@ -26,6 +27,7 @@ use Rattle.demands.specs.Answers.{Demand2Calls}
 use Rattle.demands.specs.Demand3.{Demand3, Demand3Calls}
 use Rattle.demands.specs.Fields.{OverFields, TheFields}
 use Rattle.demands.specs.Writing.{WritingJobs, WritingFiles}
+use Rattle.demands.specs.Edition2.{FirstEdition, SecondEdition}
 use Rattle.demands.proofs.Order.{file-order, rooms-last, reading-ends, solving-ends, keeps-position, fields-led}
 use Rattle.demands.proofs.Calls.{refusing}
 use Rattle.demands.proofs.Balance.{file-exactly, file-unbalanced, file-well-formed}
@@ -34,6 +36,7 @@ use Rattle.demands.proofs.Answers.{answering, three-written}
 use Rattle.demands.proofs.Published.{least-squares}
 use Rattle.demands.proofs.Fields.{over-fields, listed-fields}
 use Rattle.demands.proofs.Writing.{jobs-written, files-written}
+use Rattle.demands.proofs.Edition2.{first-edition, second-edition}
 
 pub demand-1 : (s : List ℕ) → Demand1 s
 unfolding textOf
@@ -100,3 +103,9 @@ designs-over-fields = over-fields
 
 pub the-fields : TheFields
 the-fields = listed-fields
+
+pub files-of-the-first-edition : (s : List ℕ) → FirstEdition s
+files-of-the-first-edition = first-edition
+
+pub files-of-the-second-edition : (s : List ℕ) → SecondEdition s
+files-of-the-second-edition = second-edition

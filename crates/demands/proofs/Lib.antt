@@ -9,5 +9,7 @@ pub mod Answers
 pub mod Published
 pub mod Writing
 pub mod Fields
+pub mod FourFields
+pub mod Edition2
 pub mod Demands
 pub mod Rows

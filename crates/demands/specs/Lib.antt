@@ -12,3 +12,4 @@ pub mod Answers
 pub mod Demand3
 pub mod Writing
 pub mod Fields
+pub mod Edition2

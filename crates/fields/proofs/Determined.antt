@@ -15,6 +15,15 @@ use Rattle.fields.proofs.framing.field_at.Reads as field-at-reads
 use Rattle.fields.proofs.order.fields_refusal as fields-refusal
 use Rattle.fields.proofs.order.fields_refusal.Kinds as fields-refusal-kinds
 use Rattle.fields.proofs.order.fields_refusal.Reads as fields-refusal-reads
+use Rattle.fields.proofs.second.edition_refusal as edition-refusal
+use Rattle.fields.proofs.second.edition_refusal.Kinds as edition-refusal-kinds
+use Rattle.fields.proofs.second.edition_refusal.Reads as edition-refusal-reads
+use Rattle.fields.proofs.second.four_end as four-end
+use Rattle.fields.proofs.second.four_end.Kinds as four-end-kinds
+use Rattle.fields.proofs.second.four_end.Reads as four-end-reads
+use Rattle.fields.proofs.second.optional_refusal as optional-refusal
+use Rattle.fields.proofs.second.optional_refusal.Kinds as optional-refusal-kinds
+use Rattle.fields.proofs.second.optional_refusal.Reads as optional-refusal-reads
 
 -- `held`: the answer
 module _ (κs : Lfts 1) (a : ArgsD held.signature κs) (r q : ResD held.signature κs)
@@ -36,3 +45,24 @@ module _ (κs : Lfts 1) (a : ArgsD fields-refusal.signature κs) (r q : ResD fie
   pub fields-refusal-determined : fields-refusal-reads.Post κs a r s → fields-refusal-reads.Post κs a q t →
       r ≡ q
   fields-refusal-determined p e = p ∙ sym e
+
+-- `edition_refusal`: the answer
+module _ (κs : Lfts 1) (a : ArgsD edition-refusal.signature κs) (r q : ResD edition-refusal.signature κs)
+    (s t : AtExit (endedOf 1 edition-refusal-kinds.ps edition-refusal-kinds.r) κs) where
+  pub edition-refusal-determined : edition-refusal-reads.Post κs a r s → edition-refusal-reads.Post κs a q t →
+      r ≡ q
+  edition-refusal-determined p e = p ∙ sym e
+
+-- `four_end`: the answer
+module _ (κs : Lfts 1) (a : ArgsD four-end.signature κs) (r q : ResD four-end.signature κs)
+    (s t : AtExit (endedOf 1 four-end-kinds.ps four-end-kinds.r) κs) where
+  pub four-end-determined : four-end-reads.Post κs a r s → four-end-reads.Post κs a q t →
+      r ≡ q
+  four-end-determined p e = p ∙ sym e
+
+-- `optional_refusal`: the answer
+module _ (κs : Lfts 1) (a : ArgsD optional-refusal.signature κs) (r q : ResD optional-refusal.signature κs)
+    (s t : AtExit (endedOf 1 optional-refusal-kinds.ps optional-refusal-kinds.r) κs) where
+  pub optional-refusal-determined : optional-refusal-reads.Post κs a r s → optional-refusal-reads.Post κs a q t →
+      r ≡ q
+  optional-refusal-determined p e = p ∙ sym e

@@ -2,7 +2,7 @@
 use numbers::byte;
 ghost use mathlib.Core.Path.{_≡_};
 ghost use Rattle.meaning.specs.Design.{blocks};
-ghost use Rattle.meaning.specs.File.{bodyLength, headOf, thirdAt, readingsAt};
+ghost use Rattle.meaning.specs.File.{bodyLength, headOf, thirdAt, endAt, readingsAt};
 
 // Where the initial blocks start: after the first field, and the start of the second.
 pub(crate) const BLOCKS_AT: usize = 10;
@@ -28,6 +28,13 @@ pub(crate) fn readings_at(bytes: &[u8]) -> usize
     ensures { λ r. ⌜ r ≡ readingsAt (now (bytes .entry)) ⌝ }
 {
     restraint_at(bytes) + TO_READINGS
+}
+
+// The byte after the fourth field.
+pub(crate) fn end_at(bytes: &[u8]) -> usize
+    ensures { λ r. ⌜ r ≡ endAt (now (bytes .entry)) ⌝ }
+{
+    readings_at(bytes) + 4 * block_count(bytes)
 }
 
 // The number of blocks, and of readings.

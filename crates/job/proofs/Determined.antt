@@ -7,12 +7,40 @@ use denote.Ref.{now}
 use borrow.Fn.World.{ArgsD, ResD}
 use borrow.Fn.Kinds.{endedOf}
 use denote.Triple.Clauses.{AtExit}
+use Rattle.job.proofs.moving.to_second as to-second
+use Rattle.job.proofs.moving.to_second.Kinds as to-second-kinds
+use Rattle.job.proofs.moving.to_second.Reads as to-second-reads
+use Rattle.job.proofs.moving.to_first as to-first
+use Rattle.job.proofs.moving.to_first.Kinds as to-first-kinds
+use Rattle.job.proofs.moving.to_first.Reads as to-first-reads
 use Rattle.job.proofs.reading.read as read
 use Rattle.job.proofs.reading.read.Kinds as read-kinds
 use Rattle.job.proofs.reading.read.Reads as read-reads
+use Rattle.job.proofs.second.read_second as read-second
+use Rattle.job.proofs.second.read_second.Kinds as read-second-kinds
+use Rattle.job.proofs.second.read_second.Reads as read-second-reads
+use Rattle.job.proofs.second.solve_second as solve-second
+use Rattle.job.proofs.second.solve_second.Kinds as solve-second-kinds
+use Rattle.job.proofs.second.solve_second.Reads as solve-second-reads
 use Rattle.job.proofs.solving.solve as solve
 use Rattle.job.proofs.solving.solve.Kinds as solve-kinds
 use Rattle.job.proofs.solving.solve.Reads as solve-reads
+
+-- `to_second`: the answer, `out`
+module _ (κs : Lfts 2) (a : ArgsD to-second.signature κs) (r q : ResD to-second.signature κs)
+    (s t : AtExit (endedOf 2 to-second-kinds.ps to-second-kinds.r) κs) where
+  pub to-second-determined : to-second-reads.Post κs a r s → to-second-reads.Post κs a q t →
+      (r ≡ q)
+      × (now (s .1 .0) ≡ now (t .1 .0))
+  to-second-determined p e = (p .0 ∙ sym (e .0), p .1 ∙ sym (e .1))
+
+-- `to_first`: the answer, `out`
+module _ (κs : Lfts 2) (a : ArgsD to-first.signature κs) (r q : ResD to-first.signature κs)
+    (s t : AtExit (endedOf 2 to-first-kinds.ps to-first-kinds.r) κs) where
+  pub to-first-determined : to-first-reads.Post κs a r s → to-first-reads.Post κs a q t →
+      (r ≡ q)
+      × (now (s .1 .0) ≡ now (t .1 .0))
+  to-first-determined p e = (p .0 ∙ sym (e .0), p .1 ∙ sym (e .1))
 
 -- `read`: the answer
 module _ (κs : Lfts 1) (a : ArgsD read.signature κs) (r q : ResD read.signature κs)
@@ -20,6 +48,23 @@ module _ (κs : Lfts 1) (a : ArgsD read.signature κs) (r q : ResD read.signatur
   pub read-determined : read-reads.Post κs a r s → read-reads.Post κs a q t →
       r ≡ q
   read-determined p e = p ∙ sym e
+
+-- `read_second`: the answer
+module _ (κs : Lfts 1) (a : ArgsD read-second.signature κs) (r q : ResD read-second.signature κs)
+    (s t : AtExit (endedOf 1 read-second-kinds.ps read-second-kinds.r) κs) where
+  pub read-second-determined : read-second-reads.Post κs a r s → read-second-reads.Post κs a q t →
+      r ≡ q
+  read-second-determined p e = p ∙ sym e
+
+-- `solve_second`: the answer, `words`, `values`, `deviations`
+module _ (κs : Lfts 4) (a : ArgsD solve-second.signature κs) (r q : ResD solve-second.signature κs)
+    (s t : AtExit (endedOf 4 solve-second-kinds.ps solve-second-kinds.r) κs) where
+  pub solve-second-determined : solve-second-reads.Post κs a r s → solve-second-reads.Post κs a q t →
+      (r ≡ q)
+      × (now (s .1 .0) ≡ now (t .1 .0))
+      × (now (s .1 .1 .0) ≡ now (t .1 .1 .0))
+      × (now (s .1 .1 .1 .0) ≡ now (t .1 .1 .1 .0))
+  solve-second-determined p e = (p .0 ∙ sym (e .0), p .1 .0 ∙ sym (e .1 .0), p .1 .1 .0 ∙ sym (e .1 .1 .0), p .1 .1 .1 ∙ sym (e .1 .1 .1))
 
 -- `solve`: the answer, `words`, `values`, `deviations`
 module _ (κs : Lfts 4) (a : ArgsD solve.signature κs) (r q : ResD solve.signature κs)

@@ -4,6 +4,7 @@ use mathlib.Core.List.{List}
 use Rattle.records.specs.declared.Solved.{Solved}
 use Rattle.records.specs.declared.Verdict.{Verdict}
 use Rattle.meaning.specs.Calls.{jobVerdict}
+use Rattle.meaning.specs.Edition2.{movedOn}
 use Rattle.meaning.specs.File.{headOf, blocksOf, readingsOf, setOf, sumOf, placed}
 
 -- its verdict
@@ -18,6 +19,20 @@ placeLimit = 4500
 abbrev pub solvedIn : List ℕ → Solved → Solved
 solvedIn s solved = record {
   verdict = placed s (solved .verdict);
+  parameters = solved .parameters;
+  denominator = solved .denominator;
+  spreading =
+      solved .spreading;
+}
+
+-- a place that no refusal of a file of the first edition goes beyond, and so none that is moved to the second
+abbrev pub movedLimit : ℕ
+movedLimit = 100000
+
+-- a job worked out, its verdict moved to the second edition: all else stays
+abbrev pub solvedOn : Solved → Solved
+solvedOn solved = record {
+  verdict = movedOn (solved .verdict);
   parameters = solved .parameters;
   denominator = solved .denominator;
   spreading =

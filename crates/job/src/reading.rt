@@ -34,7 +34,7 @@ pub fn read(bytes: &[u8]) -> JobRead
 }
 
 // The verdict of reading: the fields, then what they hold, each refusal at its place in the file.
-fn read_refusal(bytes: &[u8]) -> Verdict
+pub(crate) fn read_refusal(bytes: &[u8]) -> Verdict
     ensures { λ r. ⌜ r ≡ readVerdict (now (bytes .entry)) ⌝ }
 {
     let framed = fields_refusal(bytes);

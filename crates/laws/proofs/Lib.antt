@@ -19,3 +19,5 @@ pub mod Writing
 pub mod Lengths
 pub mod Enough
 pub mod Cut
+pub mod Edition2
+pub mod Putting

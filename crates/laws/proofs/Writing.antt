@@ -66,12 +66,12 @@ use Rattle.laws.proofs.Bytes.{
 -- ---- a field
 
 -- what its tests say: its tag, its length, and that its body is there
-record Fielded (s : List ℕ) (at tag len : ℕ) : Type 0 where
-  tagged : getD s at 0 ≡ tag
-  told : big s (at + 1) 2 ≡ len
-  inside : at + 3 + len ≤ length s
+pub record Fielded (s : List ℕ) (at tag len : ℕ) : Type 0 where
+  pub tagged : getD s at 0 ≡ tag
+  pub told : big s (at + 1) 2 ≡ len
+  pub inside : at + 3 + len ≤ length s
 
-fielded : (s : List ℕ) (at tag len : ℕ) → fieldVerdict s at tag len ≡ accepted → Fielded s at tag len
+pub fielded : (s : List ℕ) (at tag len : ℕ) → fieldVerdict s at tag len ≡ accepted → Fielded s at tag len
 unfolding fieldVerdict
 fielded s at tag len e =
     let a = opened _ _ e in

@@ -7,9 +7,20 @@ use denote.Ref.{now}
 use borrow.Fn.World.{ArgsD, ResD}
 use borrow.Fn.Kinds.{endedOf}
 use denote.Triple.Clauses.{AtExit}
+use Rattle.listing.proofs.second.listing_second as listing-second
+use Rattle.listing.proofs.second.listing_second.Kinds as listing-second-kinds
+use Rattle.listing.proofs.second.listing_second.Reads as listing-second-reads
 use Rattle.listing.proofs.whole.listing as listing
 use Rattle.listing.proofs.whole.listing.Kinds as listing-kinds
 use Rattle.listing.proofs.whole.listing.Reads as listing-reads
+
+-- `listing_second`: the answer, `out`
+module _ (κs : Lfts 2) (a : ArgsD listing-second.signature κs) (r q : ResD listing-second.signature κs)
+    (s t : AtExit (endedOf 2 listing-second-kinds.ps listing-second-kinds.r) κs) where
+  pub listing-second-determined : listing-second-reads.Post κs a r s → listing-second-reads.Post κs a q t →
+      (r ≡ q)
+      × (now (s .1 .0) ≡ now (t .1 .0))
+  listing-second-determined p e = (p .0 ∙ sym (e .0), p .1 ∙ sym (e .1))
 
 -- `listing`: the answer, `out`
 module _ (κs : Lfts 2) (a : ArgsD listing.signature κs) (r q : ResD listing.signature κs)

@@ -25,7 +25,7 @@ pub fn listing(bytes: &[u8], out: &mut [u8]) -> Listed
 }
 
 // The text of what was worked out, from the first numbers of two rooms: one for each object and one for each block.
-fn render_first(
+pub(crate) fn render_first(
     solved: Solved,
     values: &[i64],
     hundredths: &[i64],

@@ -2,4 +2,5 @@
 pub mod Rows
 pub mod Examples
 pub mod Boundaries
+pub mod Editions
 pub mod Addition

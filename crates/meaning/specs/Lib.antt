@@ -9,3 +9,4 @@ pub mod Calls
 pub mod File
 pub mod Writing
 pub mod Text
+pub mod Edition2

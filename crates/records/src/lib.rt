@@ -114,6 +114,12 @@ pub struct JobRead {
     pub sum: i64,
 }
 
+// The answer of a call that reads a file of the second edition: what reading hands back, and the byte at which the names start, 0 where there are none.
+pub struct SecondRead {
+    pub job: JobRead,
+    pub names_at: usize,
+}
+
 // What stands in the fields of a job file, and where: its head; where its blocks, the field of its restraint and its readings start, and how many
 // readings there are; its restraint set and accepted sum.
 pub struct Held {

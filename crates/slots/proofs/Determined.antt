@@ -19,6 +19,9 @@ use Rattle.slots.proofs.files.lay_field.Reads as lay-field-reads
 use Rattle.slots.proofs.files.lay_read as lay-read
 use Rattle.slots.proofs.files.lay_read.Kinds as lay-read-kinds
 use Rattle.slots.proofs.files.lay_read.Reads as lay-read-reads
+use Rattle.slots.proofs.files.lay_second as lay-second
+use Rattle.slots.proofs.files.lay_second.Kinds as lay-second-kinds
+use Rattle.slots.proofs.files.lay_second.Reads as lay-second-reads
 use Rattle.slots.proofs.files.lay_written as lay-written
 use Rattle.slots.proofs.files.lay_written.Kinds as lay-written-kinds
 use Rattle.slots.proofs.files.lay_written.Reads as lay-written-reads
@@ -85,6 +88,15 @@ module _ (κs : Lfts 2) (a : ArgsD lay-read.signature κs) (r q : ResD lay-read.
       × (now (s .1 .0) ≡ now (t .1 .0))
       × (now (s .1 .1 .0) ≡ now (t .1 .1 .0))
   lay-read-determined p e = (p .0 ∙ sym (e .0), p .1 .0 ∙ sym (e .1 .0), p .1 .1 ∙ sym (e .1 .1))
+
+-- `lay_second`: the answer, `signed`, `answer`
+module _ (κs : Lfts 2) (a : ArgsD lay-second.signature κs) (r q : ResD lay-second.signature κs)
+    (s t : AtExit (endedOf 2 lay-second-kinds.ps lay-second-kinds.r) κs) where
+  pub lay-second-determined : lay-second-reads.Post κs a r s → lay-second-reads.Post κs a q t →
+      (r ≡ q)
+      × (now (s .1 .0) ≡ now (t .1 .0))
+      × (now (s .1 .1 .0) ≡ now (t .1 .1 .0))
+  lay-second-determined p e = (p .0 ∙ sym (e .0), p .1 .0 ∙ sym (e .1 .0), p .1 .1 ∙ sym (e .1 .1))
 
 -- `lay_written`: the answer, `answer`
 module _ (κs : Lfts 1) (a : ArgsD lay-written.signature κs) (r q : ResD lay-written.signature κs)

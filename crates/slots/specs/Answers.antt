@@ -14,6 +14,7 @@ use Rattle.records.specs.declared.Judged.{Judged}
 use Rattle.records.specs.declared.Listed.{Listed}
 use Rattle.records.specs.declared.ObjectTotal.{ObjectTotal}
 use Rattle.records.specs.declared.ObjectValue.{ObjectValue}
+use Rattle.records.specs.declared.SecondRead.{SecondRead}
 use Rattle.records.specs.declared.Solved.{Solved}
 use Rattle.records.specs.declared.SquareSum.{SquareSum}
 use Rattle.records.specs.declared.Verdict.{Verdict}
@@ -21,7 +22,7 @@ use Rattle.meaning.specs.Refusals.{_⨾_, room}
 use Rattle.meaning.specs.Publishing.{spreadValue}
 use Rattle.meaning.specs.File.{fieldSays, fieldStart, fieldNext}
 use Rattle.slots.specs.Laid.{laid, laidTable}
-use Rattle.slots.specs.Slots.{parameterSlots, spreadingSlots, solvedSlots, readSlots}
+use Rattle.slots.specs.Slots.{parameterSlots, spreadingSlots, solvedSlots, readSlots, secondSlots}
 
 -- ---- designs
 
@@ -129,6 +130,17 @@ module _ (j : JobRead) (signed : List ℤ) (answer : List ℕ) where
 
   abbrev pub readLaid : List ℕ
   readLaid = laid readCall (readSlots j) answer
+
+-- a file of the second edition that was read: M; the slots of its job, and where the names stand
+module _ (r : SecondRead) (signed : List ℤ) (answer : List ℕ) where
+  unfoldable pub secondCall : Verdict
+  secondCall = r .job .verdict ⨾ room (length signed) 1 ⨾ room (length answer) 8
+
+  abbrev pub secondSigned : List ℤ
+  secondSigned = laid secondCall (r .job .sum ∷ []) signed
+
+  abbrev pub secondLaid : List ℕ
+  secondLaid = laid secondCall (secondSlots r) answer
 
 -- a file that was written: how many bytes
 module _ (w : JobWritten) (answer : List ℕ) where

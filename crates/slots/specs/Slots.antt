@@ -7,6 +7,7 @@ use Rattle.records.specs.declared.Spread.the-variants.{Of, None}
 use Rattle.records.specs.declared.Spreading.{Spreading}
 use Rattle.records.specs.declared.Solved.{Solved}
 use Rattle.records.specs.declared.JobRead.{JobRead}
+use Rattle.records.specs.declared.SecondRead.{SecondRead}
 
 -- the parameters of a design: v, b, r, p, L1, L2
 abbrev pub parameterSlots : Parameters → List ℕ
@@ -30,3 +31,8 @@ solvedSlots s = let p = s .parameters in
 abbrev pub readSlots : JobRead → List ℕ
 readSlots j = let h = j .head in
     h .n ∷ h .flag ∷ h .p ∷ h .m ∷ j .«blocks_at» ∷ j .«readings_at» ∷ j .set ∷ []
+
+-- a file of the second edition that was read: the same of its job, and where the names stand
+abbrev pub secondSlots : SecondRead → List ℕ
+secondSlots r = let j = r .job in let h = j .head in
+    h .n ∷ h .flag ∷ h .p ∷ h .m ∷ j .«blocks_at» ∷ j .«readings_at» ∷ j .set ∷ r .«names_at» ∷ []

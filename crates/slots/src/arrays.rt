@@ -1,12 +1,13 @@
 // The slots of an answer as an array, in their order.
 use records::JobRead;
 use records::Parameters;
+use records::SecondRead;
 use records::Solved;
 use records::Spread;
 use records::Spreading;
 ghost use mathlib.Core.Path.{_≡_};
 ghost use Rattle.meaning.specs.Publishing.{spreadValue};
-ghost use Rattle.slots.specs.Slots.{parameterSlots, hasSpread, spreadingSlots, solvedSlots, readSlots};
+ghost use Rattle.slots.specs.Slots.{parameterSlots, hasSpread, spreadingSlots, solvedSlots, readSlots, secondSlots};
 
 // The parameters of a design.
 pub(crate) fn parameter_slots(parameters: Parameters) -> [u64; 6]
@@ -76,6 +77,24 @@ pub(crate) fn read_slots(read: JobRead) -> [u64; 7]
         read.blocks_at as u64,
         read.readings_at as u64,
         read.set,
+    ]
+}
+
+// A file of the second edition that was read.
+pub(crate) fn second_slots(read: SecondRead) -> [u64; 8]
+    ensures { λ r. ⌜ r ≡ secondSlots read ⌝ }
+{
+    let job = read.job;
+    let head = job.head;
+    [
+        head.n as u64,
+        head.flag as u64,
+        head.p as u64,
+        head.m as u64,
+        job.blocks_at as u64,
+        job.readings_at as u64,
+        job.set,
+        read.names_at as u64,
     ]
 }
 

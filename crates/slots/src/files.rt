@@ -1,5 +1,6 @@
 // What calls on files answer: a field, a job that was read, a file that was written, a listing.
 use crate::arrays::read_slots;
+use crate::arrays::second_slots;
 use crate::laying::lay;
 use crate::laying::lay_signed;
 use crate::rooms::with_room;
@@ -8,10 +9,12 @@ use records::Field;
 use records::JobRead;
 use records::JobWritten;
 use records::Listed;
+use records::SecondRead;
 use records::Verdict;
 ghost use mathlib.Core.Path.{_≡_};
 ghost use Rattle.slots.specs.Told.{told};
 ghost use Rattle.slots.specs.Answers.{fieldCall, fieldLaid, readCall, readSigned, readLaid, writtenCall, writtenLaid, listedCall, listedLaid};
+ghost use Rattle.slots.specs.Answers.{secondCall, secondSigned, secondLaid};
 
 // The field at a place.
 pub fn lay_field(found: Field, place: usize, answer: &mut [u64]) -> u64
@@ -41,6 +44,23 @@ pub fn lay_read(read: JobRead, signed: &mut [i64], answer: &mut [u64]) -> u64
     let numbers = [read.sum];
     lay_signed(verdict, &numbers, signed);
     let slots = read_slots(read);
+    lay(verdict, &slots, answer);
+    told(verdict)
+}
+
+// A file of the second edition that was read.
+pub fn lay_second(read: SecondRead, signed: &mut [i64], answer: &mut [u64]) -> u64
+    ensures { λ r. ⌜ r ≡ told (secondCall read (now (signed .entry)) (now (answer .entry))) ⌝ }
+    ensures { λ _. ⌜ now (signed .exit) ≡ secondSigned read (now (signed .entry)) (now (answer .entry)) ⌝ }
+    ensures { λ _. ⌜ now (answer .exit) ≡ secondLaid read (now (signed .entry)) (now (answer .entry)) ⌝ }
+{
+    let job = read.job;
+    let tested = job.verdict;
+    let signed_tested = with_room(tested, signed.len(), 1);
+    let verdict = with_room(signed_tested, answer.len(), 8);
+    let numbers = [job.sum];
+    lay_signed(verdict, &numbers, signed);
+    let slots = second_slots(read);
     lay(verdict, &slots, answer);
     told(verdict)
 }

@@ -14,6 +14,7 @@ pub use crate::designs::lay_table;
 pub use crate::files::lay_field;
 pub use crate::files::lay_listed;
 pub use crate::files::lay_read;
+pub use crate::files::lay_second;
 pub use crate::files::lay_written;
 pub use crate::jobs::lay_deviation;
 pub use crate::jobs::lay_solved;

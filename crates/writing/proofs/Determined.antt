@@ -10,6 +10,9 @@ use denote.Triple.Clauses.{AtExit}
 use Rattle.writing.proofs.file.write as write
 use Rattle.writing.proofs.file.write.Kinds as write-kinds
 use Rattle.writing.proofs.file.write.Reads as write-reads
+use Rattle.writing.proofs.second.write_second as write-second
+use Rattle.writing.proofs.second.write_second.Kinds as write-second-kinds
+use Rattle.writing.proofs.second.write_second.Reads as write-second-reads
 
 -- `write`: the answer, `out`
 module _ (κs : Lfts 3) (a : ArgsD write.signature κs) (r q : ResD write.signature κs)
@@ -18,3 +21,11 @@ module _ (κs : Lfts 3) (a : ArgsD write.signature κs) (r q : ResD write.signat
       (r ≡ q)
       × (now (s .1 .1 .1 .1 .1 .0) ≡ now (t .1 .1 .1 .1 .1 .0))
   write-determined p e = (p .0 ∙ sym (e .0), p .1 ∙ sym (e .1))
+
+-- `write_second`: the answer, `out`
+module _ (κs : Lfts 4) (a : ArgsD write-second.signature κs) (r q : ResD write-second.signature κs)
+    (s t : AtExit (endedOf 4 write-second-kinds.ps write-second-kinds.r) κs) where
+  pub write-second-determined : write-second-reads.Post κs a r s → write-second-reads.Post κs a q t →
+      (r ≡ q)
+      × (now (s .1 .1 .1 .1 .1 .1 .0) ≡ now (t .1 .1 .1 .1 .1 .1 .0))
+  write-second-determined p e = (p .0 ∙ sym (e .0), p .1 ∙ sym (e .1))

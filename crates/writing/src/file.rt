@@ -31,13 +31,14 @@ pub fn write(
     if is_refused(verdict) {
         return JobWritten { verdict, length: 0 };
     }
-    let length = put_file(out, head, blocks, set, sum, readings);
+    let length = put_file(out, 0, head, blocks, set, sum, readings);
     JobWritten { verdict, length }
 }
 
-// The four fields from the front on, as far as there is room.
-fn put_file(
+// The four fields from a place on, as far as there is room.
+pub(crate) fn put_file(
     out: &mut [u8],
+    at: usize,
     head: Head,
     blocks: &[u8],
     set: u64,
@@ -45,9 +46,9 @@ fn put_file(
     readings: &[i32],
 ) -> usize
     requires { ⌜ (Fits head) × (length (now blocks) ≡ listLength head) × (length (now readings) ≡ head .m * head .n) ⌝ }
-    ensures { λ r. ⌜ Wrote (now (out .entry)) 0 (fileOf head (now (blocks .entry)) (now (readings .entry)) set sum) (now (out .exit)) r ⌝ }
+    ensures { λ r. ⌜ Wrote (now (out .entry)) at (fileOf head (now (blocks .entry)) (now (readings .entry)) set sum) (now (out .exit)) r ⌝ }
 {
-    let second = put_sizes(out, 0, head);
+    let second = put_sizes(out, at, head);
     let blocks_at = put_start(out, second, 2, blocks.len());
     let third = put_text(out, blocks_at, blocks);
     let fourth = put_restraint(out, third, set, sum);

@@ -84,4 +84,17 @@ calls! {
     write = bench_write(n: usize, flag: usize, p: usize, m: usize, blocks: &[u8], set: u64, sum: i64, readings: &[i32], out: &mut [u8], answer: &mut [u64],);
     /// Writes the text for a job file: how many bytes.
     listing = bench_listing(bytes: &[u8], out: &mut [u8], answer: &mut [u64],);
+    /// Reads a file of the second edition: as [`read`], and where the names start, 0 for none.
+    read_second = bench_read_second(bytes: &[u8], signed_slots: &mut [i64], answer: &mut [u64],);
+    /// Works a file of the second edition out: as [`analyse`].
+    solve_second = bench_solve_second(bytes: &[u8], words: &mut [u64], values: &mut [i64], deviations: &mut [i64], answer: &mut [u64], real: &mut [f64],);
+    /// Writes the file of a job in the second edition, names of eight bytes an object or none: how many bytes.
+    write_second = bench_write_second(n: usize, flag: usize, p: usize, m: usize, blocks: &[u8], set: u64, sum: i64, readings: &[i32], names: &[u8],
+        out: &mut [u8], answer: &mut [u64],);
+    /// Moves a file of the first edition to the second: how many bytes.
+    to_second = bench_to_second(bytes: &[u8], out: &mut [u8], answer: &mut [u64],);
+    /// Moves a file of the second edition to the first: how many bytes.
+    to_first = bench_to_first(bytes: &[u8], out: &mut [u8], answer: &mut [u64],);
+    /// Writes the text for a file of the second edition: how many bytes.
+    listing_second = bench_listing_second(bytes: &[u8], out: &mut [u8], answer: &mut [u64],);
 }

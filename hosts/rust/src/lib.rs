@@ -29,6 +29,8 @@ pub const VALUES: usize = 50;
 pub const DEVIATIONS: usize = 1300;
 /// The bytes of the longest job file.
 pub const FILE: usize = 6584;
+/// The bytes of the longest job file of the second edition.
+pub const FILE_SECOND: usize = 16384;
 /// Bytes enough for the text of every job.
 pub const TEXT: usize = 65536;
 
@@ -75,6 +77,8 @@ reasons! {
     BytesFollow = 9,
     NoRoom = 10,
     OneStandard = 11,
+    WrongEdition = 12,
+    OptionalFields = 13,
 }
 
 /// A refusal: its reason, and its place in the file, or, in a call that takes no file, the index in its slice or the number that was asked for, modulo 2^48.
@@ -214,6 +218,30 @@ pub struct JobRead {
     pub readings_at: usize,
     pub set: u64,
     pub sum: i64,
+}
+
+/// What a file of the second edition holds: its job, places in this file, and the names of its objects, none or one for each.
+#[derive(Debug, Clone, PartialEq, Eq)]
+pub struct SecondRead {
+    pub job: JobRead,
+    pub names: Vec<Name>,
+}
+
+/// The name of a weight, as it stands in a file: eight bytes, filled with spaces.
+#[derive(Debug, Clone, Copy, PartialEq, Eq)]
+pub struct Name(pub [u8; 8]);
+
+impl fmt::Display for Name {
+    /// For people: what is no text is replaced, and spaces at the end are cut.
+    ///
+    /// ```
+    /// use mass_bench::Name;
+    /// assert_eq!(Name(*b"1 kg a  ").to_string(), "1 kg a");
+    /// assert_eq!(Name(*b"\xFFkg     ").to_string(), "\u{FFFD}kg");
+    /// ```
+    fn fmt(&self, f: &mut fmt::Formatter) -> fmt::Result {
+        f.write_str(String::from_utf8_lossy(&self.0).trim_end_matches(' '))
+    }
 }
 
 // ---- designs
@@ -550,6 +578,88 @@ pub fn listing(bytes: &[u8]) -> Result<String, Refusal> {
     refusal_in(calls::listing(bytes, &mut out, &mut answer))?;
     out.truncate(answer[0] as usize);
     Ok(String::from_utf8(out).expect("a listing is ASCII"))
+}
+
+// ---- files of the second edition
+
+/// Reads a file of the second edition.
+///
+/// ```
+/// # use mass_bench::{read_second, write_second, Head, Name};
+/// let head = Head { n: 5, flag: 0, p: 2, m: 1 };
+/// let names = [*b"a       ", *b"b       ", *b"c       ", *b"d       ", *b"e       "].map(Name);
+/// let file = read_second(&write_second(head, &[1, 4, 2, 3], 0b11, 7, &[11, -3, 4, 1, -8], &names)?)?;
+/// assert_eq!((file.job.head, file.job.blocks_at, file.job.readings_at), (head, 14, 40));
+/// assert_eq!((file.names[1], file.names[1].to_string()), (names[1], "b".to_string()));
+/// # Ok::<(), mass_bench::Refusal>(())
+/// ```
+pub fn read_second(bytes: &[u8]) -> Result<SecondRead, Refusal> {
+    let (mut signed, mut answer) = ([0], [0; 8]);
+    refusal_in(calls::read_second(bytes, &mut signed, &mut answer))?;
+    let [n, flag, p, m, blocks_at, readings_at] = [0, 1, 2, 3, 4, 5].map(|slot| answer[slot] as usize);
+    let head = Head { n, flag, p, m };
+    let names = match answer[7] as usize {
+        0 => vec![],
+        at => bytes[at..at + 8 * head.objects()].chunks(8).map(|name| Name(name.try_into().expect("eight bytes"))).collect(),
+    };
+    Ok(SecondRead { job: JobRead { head, blocks_at, readings_at, set: answer[6], sum: signed[0] }, names })
+}
+
+/// Works a file of the second edition out.
+pub fn solve_second(bytes: &[u8]) -> Result<Job, Refusal> {
+    worked_out(|words, values, deviations, answer, real| calls::solve_second(bytes, words, values, deviations, answer, real))
+}
+
+/// Writes the file of a job in the second edition, with a name for each object, or with none.
+///
+/// ```
+/// # use mass_bench::{write_second, Head, Name, Reason};
+/// let head = Head { n: 5, flag: 0, p: 2, m: 1 };
+/// let file = write_second(head, &[1, 4, 2, 3], 0b11, 7, &[11, -3, 4, 1, -8], &[])?;
+/// assert_eq!((file.len(), &file[..4]), (60, &[0x10, 0, 1, 2][..]));
+/// let one = [Name(*b"a       ")];
+/// assert_eq!(write_second(head, &[1, 4, 2, 3], 0b11, 7, &[11, -3, 4, 1, -8], &one).unwrap_err().reason, Reason::WrongLength);
+/// # Ok::<(), mass_bench::Refusal>(())
+/// ```
+pub fn write_second(head: Head, blocks: &[u8], set: u64, sum: i64, readings: &[i32], names: &[Name]) -> Result<Vec<u8>, Refusal> {
+    let Head { n, flag, p, m } = head;
+    let names: Vec<u8> = names.iter().flat_map(|name| name.0).collect();
+    put(FILE_SECOND, |out, answer| calls::write_second(n, flag, p, m, blocks, set, sum, readings, &names, out, answer))
+}
+
+/// Moves a file of the first edition to the second.
+///
+/// ```
+/// # use mass_bench::{to_first, to_second, write, Head};
+/// let file = write(Head { n: 5, flag: 0, p: 2, m: 1 }, &[1, 4, 2, 3], 0b11, 7, &[11, -3, 4, 1, -8])?;
+/// assert_eq!(to_first(&to_second(&file)?)?, file);
+/// # Ok::<(), mass_bench::Refusal>(())
+/// ```
+pub fn to_second(bytes: &[u8]) -> Result<Vec<u8>, Refusal> {
+    put(FILE_SECOND, |out, answer| calls::to_second(bytes, out, answer))
+}
+
+/// Moves a file of the second edition to the first: only where it has no optional field, so that nothing is dropped.
+pub fn to_first(bytes: &[u8]) -> Result<Vec<u8>, Refusal> {
+    put(FILE, |out, answer| calls::to_first(bytes, out, answer))
+}
+
+/// The text for a file of the second edition: the listing of its job, without the names, or the line of its refusal.
+///
+/// ```
+/// assert_eq!(mass_bench::listing_second(&[0x10, 0, 1, 3]), Ok("refused 12 3\n".to_string()));
+/// ```
+pub fn listing_second(bytes: &[u8]) -> Result<String, Refusal> {
+    let out = put(TEXT, |out, answer| calls::listing_second(bytes, out, answer))?;
+    Ok(String::from_utf8(out).expect("a listing is ASCII"))
+}
+
+// What a call put into room of `room` bytes, as many as it says.
+fn put(room: usize, call: impl FnOnce(&mut [u8], &mut [u64]) -> u64) -> Result<Vec<u8>, Refusal> {
+    let (mut out, mut answer) = (vec![0; room], [0]);
+    refusal_in(call(&mut out, &mut answer))?;
+    out.truncate(answer[0] as usize);
+    Ok(out)
 }
 
 // ---- slots

@@ -1,6 +1,6 @@
 -- What was worked out gives the text of the file: where the numbers in hand are those of the job, each line of `sheet` is the line of the definition.
 -- Assumes nothing.
-use mathlib.Core.Path.{_≡_, refl, _∙_}
+use mathlib.Core.Path.{_≡_, refl, sym, _∙_}
 use mathlib.Core.List.{List, _++_}
 use Prim.Native.Nat.{ℕ, _*_, _≤_, _<_}
 use native.Mathlib.Omega.{arith}
@@ -21,9 +21,11 @@ use Rattle.meaning.specs.Refusals.{accepted, _⨾_}
 use Rattle.meaning.specs.Calls.{jobVerdict, valuesUnder, deviationsUnder, spreadingOf, rooms, solvedUnder}
 use Rattle.meaning.specs.File.{headOf, blocksOf, readingsOf, setOf, sumOf, readVerdict, solveVerdict}
 use Rattle.meaning.specs.Text.{each, designLine, valueLine, devLine, spreadLine, jobText, textUnder, textOf}
+use Rattle.meaning.specs.Edition2.{fourOf, readVerdict2, solveVerdict2, textOf2}
 use Rattle.laws.specs.Fits.{Fits}
-use Rattle.laws.proofs.Chains.{job}
+use Rattle.laws.proofs.Chains.{job, goes-on}
 use Rattle.laws.proofs.Files.{file-job}
+use Rattle.laws.proofs.Edition2.{file-job2}
 use Rattle.analysis.specs.Column.{columnOf}
 use Rattle.analysis.proofs.Column.{column-published}
 use Rattle.printing.proofs.Each.{each-same}
@@ -142,3 +144,51 @@ module _ (s : List ℕ) where
       pub solved-text : sheetText r (take (r .parameters .v) after) (columnOf after (r .denominator) (setOf s)) (take (r .parameters .b) after′) ≡ textOf s
       unfolding textOf
       solved-text = rw (says, first, second, rooms-enough) (first-text values deviations lv ld (readVerdict s) refl)
+
+-- ---- any byte string as a file of the second edition: the text is that of its four fields, under its own verdict
+
+module _ (s : List ℕ) where
+  abbrev four : List ℕ
+  four = fourOf s
+
+  -- where it is accepted, its four fields are
+  four-accepts : (v : Verdict) → readVerdict2 s ≡ v → v ≡ accepted → readVerdict four ≡ accepted
+  four-accepts v e f = file-job2 s (e ∙ f) .1
+
+  few2 : (v : Verdict) → readVerdict2 s ≡ v → (answer four v .parameters .v ≤ 50) × (answer four v .parameters .b ≤ 1300)
+  few2 Accepted e = few four Accepted (four-accepts Accepted e refl)
+  few2 (Refused k place) e = (omega arith, omega arith)
+
+  first-text2 : (values deviations : List ℤ) → length values ≡ 50 → 1300 ≤ length deviations → (v : Verdict) → readVerdict2 s ≡ v →
+      sheetText (answer four v) (take (answer four v .parameters .v) (valuesLeft four v values))
+      (columnOf (valuesLeft four v values) (answer four v .denominator) (setOf four)) (take (answer four v .parameters .b) (deviationsLeft four v deviations)) ≡ textUnder v four
+  unfolding sheetText
+  first-text2 values deviations lv ld Accepted e = first-text four values deviations lv ld Accepted (four-accepts Accepted e refl)
+  first-text2 values deviations lv ld (Refused k place) e = refl
+
+  module _ (words : List ℕ) (values deviations : List ℤ) (lw : 2600 ≤ length words) (lv : length values ≡ 50) (ld : 1300 ≤ length deviations) where
+    abbrev verdict2 : Verdict
+    verdict2 = solveVerdict2 s (length words) (length values) (length deviations)
+
+    -- the rooms are enough, as they are for the four fields
+    rooms-enough2 : verdict2 ≡ readVerdict2 s
+    unfolding solveVerdict2 solveVerdict
+    rooms-enough2 = by (readVerdict2 s) refl
+      where
+        by : (v : Verdict) → readVerdict2 s ≡ v → v ⨾ rooms (headOf four) (length words) (length values) (length deviations) ≡ v
+        by Accepted e =
+            let f = four-accepts Accepted e refl in
+            sym (goes-on (rooms (headOf four) (length words) (length values) (length deviations)) f) ∙ rooms-enough four words values deviations lw lv ld ∙ f
+        by (Refused k place) e = refl
+
+    module _ {r : Solved} {after after′ : List ℤ} (says : r ≡ answer four verdict2) (first : after ≡ valuesLeft four verdict2 values)
+        (second : after′ ≡ deviationsLeft four verdict2 deviations) where
+      pub solved-fits2 : (r .parameters .v ≤ length after) × (r .parameters .b ≤ length after′)
+      solved-fits2 = rw (says, first, second, rooms-enough2) (omega (arith, few2 (readVerdict2 s) refl, left-long four (readVerdict2 s) values deviations))
+
+      pub solved-few2 : r .parameters .v ≤ 50
+      solved-few2 = rw (says, rooms-enough2) (few2 (readVerdict2 s) refl .0)
+
+      pub solved-text2 : sheetText r (take (r .parameters .v) after) (columnOf after (r .denominator) (setOf four)) (take (r .parameters .b) after′) ≡ textOf2 s
+      unfolding textOf2
+      solved-text2 = rw (says, first, second, rooms-enough2) (first-text2 values deviations lv ld (readVerdict2 s) refl)

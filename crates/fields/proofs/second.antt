@@ -1,0 +1,2 @@
+-- What the second edition's fields answer, test by test.
+pub mod Answers

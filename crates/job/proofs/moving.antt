@@ -1,0 +1,2 @@
+-- The verdicts of the moves, test by test.
+pub mod Putting

@@ -1,0 +1,2 @@
+-- What the verdict of writing the second edition says.
+pub mod Verdicts

@@ -30,12 +30,15 @@ pub struct Parameters {
     pub l2: u64,
 }
 
-// One object's value: a fraction that is not reduced, its published hundredths of a count, and its f64.
+// One object's value: a fraction that is not reduced, its published hundredths of a count, and its f64; then its variance factor, the numerator over the
+// same denominator, and the factor's f64.
 pub struct Value {
     pub numerator: i64,
     pub denominator: u64,
     pub hundredths: i64,
     pub value: f64,
+    pub factor: u64,
+    pub factor_value: f64,
 }
 
 // The spread as an f64 with its degrees of freedom, or none.

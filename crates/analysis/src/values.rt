@@ -101,7 +101,11 @@ fn factor_of(set: u64, object: usize) -> u64
     ensures { λ r. ⌜ r ≡ factorIn set object ⌝ }
 {
     let t = ones(set);
-    if holds(set, object) == 1 { t - 1 } else { t + 1 }
+    if holds(set, object) == 1 {
+        t - 1
+    } else {
+        t + 1
+    }
 }
 
 // Lays the numerator of every object into `values`, and hands back their denominator. t is how many objects the restraint set has.

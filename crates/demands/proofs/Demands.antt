@@ -1,8 +1,9 @@
--- What the customer signs: the three demands, each for every byte string and for every direct call, and the request on writing jobs. Each is a record of
+-- What the customer signs: the three demands, each for every byte string and for every direct call, and the requests on uncertainty and on writing. Each is a record of
 -- specs/, with a field for each clause of the customer's sentence; here stand the proofs, by the laws of the definitions.
 --     demand-1, demand-1-calls       specs/Demand1, specs/Calls      refused by number, place and order, and nothing lent is changed
 --     demand-2, demand-2-calls       specs/Demand2, specs/Answers    accepted exactly if balanced, and the paper's fractions
 --     demand-3, demand-3-calls       specs/Demand3                   the exact values are best, and the published ones near
+--     uncertainty-per-object         specs/Uncertainty               a variance factor is the sum of squared coefficients (02, P8)
 --     writing-jobs, writing-files    specs/Writing                   each accepted job has exactly one file (02, P1)
 -- Assumes nothing.
 use mathlib.Core.List.{List}
@@ -22,6 +23,7 @@ use Rattle.demands.specs.Calls.{Demand1Calls}
 use Rattle.demands.specs.Demand2.{Demand2}
 use Rattle.demands.specs.Answers.{Demand2Calls}
 use Rattle.demands.specs.Demand3.{Demand3, Demand3Calls}
+use Rattle.demands.specs.Uncertainty.{UncertaintyPerObject, UncertaintyPerObjectCalls}
 use Rattle.demands.specs.Writing.{WritingJobs, WritingFiles}
 use Rattle.demands.proofs.Order.{file-order, rooms-last, reading-ends, solving-ends, keeps-position, fields-led}
 use Rattle.demands.proofs.Calls.{refusing}
@@ -29,6 +31,7 @@ use Rattle.demands.proofs.Balance.{file-exactly, file-unbalanced, file-
 use Rattle.demands.proofs.Papers.{papers-fractions}
 use Rattle.demands.proofs.Answers.{answering, three-written}
 use Rattle.demands.proofs.Published.{least-squares}
+use Rattle.demands.proofs.Uncertainty.{uncertainty}
 use Rattle.demands.proofs.Writing.{jobs-written, files-written}
 
 pub demand-1 : (s : List ℕ) → Demand1 s
@@ -84,6 +87,12 @@ demand-3 s e = least-squares (jobIn s) (file-job s e .1)
 
 pub demand-3-calls : (j : Job) → Demand3Calls j
 demand-3-calls = least-squares
+
+pub uncertainty-per-object : (s : List ℕ) → UncertaintyPerObject s
+uncertainty-per-object s e = uncertainty (jobIn s) (file-job s e .1)
+
+pub uncertainty-per-object-calls : (j : Job) → UncertaintyPerObjectCalls j
+uncertainty-per-object-calls = uncertainty
 
 pub writing-jobs : (j : Job) → WritingJobs j
 writing-jobs = jobs-written

@@ -6,6 +6,7 @@ pub mod Balance
 pub mod Papers
 pub mod Answers
 pub mod Published
+pub mod Uncertainty
 pub mod Writing
 pub mod Demands
 pub mod Rows

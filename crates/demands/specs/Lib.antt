@@ -10,4 +10,5 @@ pub mod Papers
 pub mod Demand2
 pub mod Answers
 pub mod Demand3
+pub mod Uncertainty
 pub mod Writing

@@ -4,6 +4,7 @@
 --     values-linear       a value is the sum of coefficient times reading, and M over t, for every set of readings
 --     factor-squares      the squares of an object's coefficients add to its factor
 --     factor-products     the products of two objects' coefficients add to 1 less how many of the two are members
+--     all-members         where t is v, every object is a member
 --     factor-most         a factor is at most v + 1
 -- Assumes nothing.
 use mathlib.Core.Path.{_≡_, refl, sym, _∙_, ap, ap₂, _≡⟨_⟩_, _∎}
@@ -11,12 +12,13 @@ use mathlib.Core.Bool.{Bool, true, false, cond}
 use mathlib.Core.List.{List}
 use Prim.Native.Nat.{ℕ, zero, suc, _+_, _-_, _*_, _≤_, _<_}
 use native.Mathlib.Omega.{arith}
+use native.Mathlib.Decide.{ℕ-discrete}
 use lib.Dec.{eqb}
 use lib.IntN.{ℤ, pos, _+ℤ_, _-ℤ_, _*ℤ_, +ℤ-invr}
-use Rattle.algebra.specs.Ranges.{sum}
+use Rattle.algebra.specs.Ranges.{sum, sumℕ}
 use Rattle.algebra.proofs.Solver.{_⊕_, _⊗_, _⊝_, #, _≐_, ring₂, ring₃, ring₄, ring₅}
 use Rattle.algebra.proofs.Order.{pos-sub}
-use Rattle.algebra.proofs.Sums.{sum-cong, sum-ext, sum-sub, sum-scale, sum-delta, if-eq, if-ne}
+use Rattle.algebra.proofs.Sums.{sum-cong, sum-ext, sum-sub, sum-scale, sum-delta, if-eq, if-ne, sumℕ-le-const}
 use Rattle.records.specs.declared.Head.{Head}
 use Rattle.meaning.specs.Design.{objects, blocks, balanced, beta}
 use Rattle.meaning.specs.Analysis.{
@@ -172,6 +174,22 @@ module _ (h : Head) (d : List ℕ) (s : Sound h d) (e : balanced h d ≡ true) (
       (if-ne j i (pos (members (objects h) w)) (pos 0) (λ e. differ (sym e)))
       ∙ ring₅ (λ b v t m n. b ⊗ v ⊗ (t ⊗ (# 0 ⊝ m) ⊝ (t ⊗ n ⊝ t)) ≐ (# 1 ⊝ (m ⊕ n)) ⊗ (t ⊗ (v ⊗ b)))
       (pos (beta h d)) (pos (objects h)) (pos (members (objects h) w)) (pos (member w i)) (pos (member w j)) refl
+
+-- where t is v, every object is a member
+pub all-members : (v w : ℕ) → members v w ≡ v → (i : ℕ) → i < v → member w i ≡ 1
+unfolding members sumℕ
+all-members v w e = go v e
+  where
+    most : (n : ℕ) → sumℕ n (member w) ≤ n
+    most n = omega (arith, sumℕ-le-const n 1 (member w) (λ i l. member-most w i))
+
+    go : (n : ℕ) → sumℕ n (member w) ≡ n → (i : ℕ) → i < n → member w i ≡ 1
+    go zero e i l = omega arith
+    go (suc n) e i l = by (λ o. go n (omega (arith, most n, member-most w n)) i o) (ℕ-discrete n i)
+      where
+        by : (i < n → member w i ≡ 1) → Dec (n ≡ i) → member w i ≡ 1
+        by below (yes q) = ap (member w) (sym q) ∙ omega (arith, most n, member-most w n)
+        by below (no q) = below (omega arith)
 
 -- a factor is at most v + 1
 pub factor-most : (h : Head) (w i : ℕ) → factor h w i ≤ objects h + 1

@@ -2,7 +2,6 @@
 use borrow.Author.Needs.{needs}
 use mathlib.Core.Path.{_≡_, ap, _∙_}
 use mathlib.Core.Bool.{false}
-use Prim.Native.Nat.{_≤_, _^_}
 use native.Mathlib.Omega.{arith}
 use lib.Ieee.{ofBits}
 use lib.IntN.{ℤ, pos}

@@ -1,8 +1,6 @@
 -- `value_from`: its calls give the two f64s. Assumes nothing.
 use borrow.Author.Needs.{needs}
-use mathlib.Core.Path.{_∙_}
 use mir.Facts.{toZ-ofZ}
-use Rattle.algebra.proofs.Signs.{read-back}
 use Rattle.arithmetic.proofs.Exact.{value-is}
 use Rattle.arithmetic.proofs.quotient.value_from.Statement.{statement}
 use Rattle.arithmetic.proofs.quotient.value_from.Tie as tie

@@ -98,13 +98,15 @@ module _ (h : Head) (d : List ℕ) (y : List ℤ) (w : ℕ) (M : ℤ) where
 
 -- ---- the Value
 
+-- the ones of the restraint set of an accepted job are its t,
 ones-are : (h : Head) (d : List ℕ) (y : List ℤ) (w : ℕ) (M : ℤ) → Job h d y w M → sumℕ 64 (member w) ≡ members (objects h) w
 ones-are h d y w M j = ones-members (objects h) w (omega (arith, j .measures .design .sizes .objects-most)) (j .restraint .set-inside)
 
--- the ones of the restraint set of an accepted job are its t: there are some, and they make the factor of the definition
+-- there are some,
 pub ones-some : (h : Head) (d : List ℕ) (y : List ℤ) (w : ℕ) (M : ℤ) → Job h d y w M → 0 < sumℕ 64 (member w)
 ones-some h d y w M j = rw (ones-are h d y w M j) (job-members h d y w M j)
 
+-- and they make the factor of the definition
 pub factor-is : (h : Head) (d : List ℕ) (y : List ℤ) (w : ℕ) (M : ℤ) (i : ℕ) → Job h d y w M → factorIn w i ≡ factor h w i
 unfolding factor
 factor-is h d y w M i j = ap (λ (t : ℕ). cond (eqb (member w i) 1) (t - 1) (t + 1)) (ones-are h d y w M j)

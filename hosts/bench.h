@@ -111,9 +111,11 @@ enum {
     BENCH_VALUE_HUNDREDTHS = 1, /* published: hundredths of a count, as bench_published has them */
     BENCH_VALUE_SIGNED_SLOTS = 2,
     BENCH_VALUE_DENOMINATOR = 0,
-    BENCH_VALUE_SLOTS = 1,
-    BENCH_VALUE_REAL = 0, /* numerator / denominator */
-    BENCH_VALUE_REAL_SLOTS = 1
+    BENCH_VALUE_FACTOR = 1, /* numerator of the variance factor, over the same denominator */
+    BENCH_VALUE_SLOTS = 2,
+    BENCH_VALUE_REAL = 0,        /* numerator / denominator */
+    BENCH_VALUE_REAL_FACTOR = 1, /* factor / denominator */
+    BENCH_VALUE_REAL_SLOTS = 2
 };
 
 /* bench_deviation_of: `signed_slots`, then `answer`. bench_total: `signed_slots`. The sums of squares and bench_q: `answer`,
@@ -199,7 +201,9 @@ uint64_t bench_values(size_t n, size_t flag, size_t p, size_t m, const uint8_t *
                       const int32_t *readings, size_t readings_length, uint64_t set, int64_t sum,
                       int64_t *values, size_t values_length);
 
-/* The value of one object. */
+/* The value of one object, and its variance factor: the sum of the squares of the coefficients with which the readings enter the
+ * value. Its numerator is t - 1 for a member of the restraint, t + 1 for any other object, its denominator that of the value, t*v*beta,
+ * not reduced. The variance of the value is the factor times that of one reading: the standard deviation is the spread times its root. */
 uint64_t bench_value_of(size_t n, size_t flag, size_t p, size_t m, const uint8_t *blocks, size_t blocks_length,
                         const int32_t *readings, size_t readings_length, uint64_t set, int64_t sum, size_t object,
                         int64_t *signed_slots, size_t signed_slots_length,

@@ -1,4 +1,4 @@
-/* Judges the design of example A, tells the value of one of its objects, adds up its published column, assembles its job, and lists it:
+/* Judges the design of example A, tells the value of one of its objects with its variance factor, adds up its published column, assembles its job, and lists it:
  * hosts/c/example.c
  * With a word, lists that job file: hosts/c/example.c FILE */
 #include <inttypes.h>
@@ -33,8 +33,9 @@ int main(int argc, char **argv) {
                              BENCH_VALUE_SLOTS, real, BENCH_VALUE_REAL_SLOTS);
     if (refused)
         return told(refused);
-    fprintf(stderr, "object 1: %" PRId64 "/%" PRIu64 ", %g counts\n", value[BENCH_VALUE_NUMERATOR],
-            answer[BENCH_VALUE_DENOMINATOR], real[BENCH_VALUE_REAL]);
+    fprintf(stderr, "object 1: %" PRId64 "/%" PRIu64 ", %g counts; variance factor %" PRIu64 "/%" PRIu64 ", %g\n",
+            value[BENCH_VALUE_NUMERATOR], answer[BENCH_VALUE_DENOMINATOR], real[BENCH_VALUE_REAL], answer[BENCH_VALUE_FACTOR],
+            answer[BENCH_VALUE_DENOMINATOR], real[BENCH_VALUE_REAL_FACTOR]);
 
     /* The published column: the two members add to 700 hundredths, no more and no less. */
     int64_t hundredths[BENCH_VALUES];

@@ -1,5 +1,6 @@
 //! What a call of the bench is asked, whole or damaged; the tests that it makes, in their order; and what the count works out for its answer.
 
+use crate::coefficients::Coefficients;
 use crate::compare::HEADS;
 use crate::design::{balance, develop, Balance, Block};
 use crate::job::{self, first_far, first_unclean, is_one_standard, is_restraint, members, Cursor, Draft, Head, Job, Refusal, READING_LIMIT, SUM_LIMIT};
@@ -47,6 +48,7 @@ struct WorkedOut {
     blocks: OnceCell<Vec<Block>>,
     balance: OnceCell<Option<Balance>>,
     solved: OnceCell<Solved>,
+    coefficients: OnceCell<Coefficients>,
     file: OnceCell<Result<Solved, Refusal>>,
     second: OnceCell<Result<(Second, Results), Refusal>>,
 }
@@ -93,6 +95,11 @@ impl Asked {
                 readings: self.wide_readings(),
             })
         })
+    }
+
+    /// With what coefficients the readings enter the values of a job that nothing refuses.
+    pub fn coefficients(&self) -> &Coefficients {
+        self.worked_out.coefficients.get_or_init(|| Coefficients::of(&self.solved().job))
     }
 
     pub fn file(&self) -> Result<&Solved, Refusal> {

@@ -15,6 +15,7 @@
 
 mod asked;
 mod balanced;
+mod coefficients;
 mod compare;
 mod damage;
 mod design;
@@ -142,7 +143,9 @@ const CALLS: &[Call] = &[
         |asked| {
             let results = &asked.solved().results;
             let (numerator, denominator) = (results.numerators[asked.number], results.denominator);
-            vec![whole(&[numerator, results.hundredths[asked.number]]), whole(&[denominator]), real(numerator, denominator)]
+            let factor = asked.coefficients().factor(asked.number);
+            let (wholes, fractions) = ([denominator, factor], [(numerator, denominator), (factor, denominator)]);
+            vec![whole(&[numerator, results.hundredths[asked.number]]), whole(&wholes), reals(&fractions)]
         }
     ),
     call!(bench_published(head blocks readings restraint; hundredths), [DESIGN, READINGS, BALANCE, RESTRAINT], |asked| {
@@ -218,8 +221,17 @@ fn whole(numbers: &[i128]) -> Left {
     front(numbers.iter().map(|number| *number as u64).collect())
 }
 
-/// The f64 nearest to top/bottom, found over whole numbers: 53 bits of the quotient, of two equally near ones the even one.
 fn real(top: i128, bottom: i128) -> Left {
+    reals(&[(top, bottom)])
+}
+
+/// The f64s nearest to fractions.
+fn reals(fractions: &[(i128, i128)]) -> Left {
+    front(fractions.iter().map(|(top, bottom)| nearest_real(*top, *bottom).to_bits()).collect())
+}
+
+/// The f64 nearest to top/bottom, found over whole numbers: 53 bits of the quotient, of two equally near ones the even one.
+fn nearest_real(top: i128, bottom: i128) -> f64 {
     let (mut over, mut under, mut power) = (top.abs(), bottom, 0);
     while over != 0 && over < under << 52 {
         (over, power) = (over << 1, power - 1);
@@ -228,7 +240,11 @@ fn real(top: i128, bottom: i128) -> Left {
         (under, power) = (under << 1, power + 1);
     }
     let nearest = nearest_even(over, under) as f64 * 2f64.powi(power);
-    front(vec![if top < 0 { -nearest } else { nearest }.to_bits()])
+    if top < 0 {
+        -nearest
+    } else {
+        nearest
+    }
 }
 
 fn word(objects: &BTreeSet<usize>) -> u64 {

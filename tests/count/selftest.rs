@@ -1,6 +1,7 @@
 //! The figures that the request prints, each against the count; and that the designs made for trials are what they should be.
 
 use crate::balanced::{self, Design};
+use crate::coefficients::Coefficients;
 use crate::compare;
 use crate::damage;
 use crate::design::{develop, pairs};
@@ -40,6 +41,7 @@ pub fn selftest() -> usize {
     publishing(&mut figures);
     seeds(&mut figures);
     fields(&mut figures);
+    variance_factors(&mut figures);
     designs(&mut figures);
     editions(&mut figures);
     figures.0
@@ -361,4 +363,41 @@ fn editions(figures: &mut Figures) {
     figures.same("names of 39 bytes", after(&second::field(0x80, &names[1..])), Some((3, 60)));
     figures.same("a body past the end", after(&[0x81, 0, 1]), Some((1, 60)));
     figures.same("back with a field", second::to_first(&named).err().map(|refusal| (refusal.number, refusal.place)), Some((13, 60)));
+}
+
+/// Factors worked out by hand: the job, its factors, the denominator, and the products of objects 0 and 1, 0 and the last, and the last two.
+const FACTORS: &[(&str, &[i128], i128, [i128; 3])] = &[
+    ("A", &[1, 1, 3, 3, 3], 10, [-1, 0, 1]),
+    ("H", &[1, 1, 3, 3, 3, 3, 3], 28, [-1, 0, 1]),
+    ("I", &[1, 1, 3, 3], 8, [-1, 0, 1]),
+    ("L", &[2, 2, 2], 9, [-1, -1, -1]),
+];
+
+/// What 000, section 3, says of the variances; and that on every stored job and many seeded ones the coefficients give the values again, from the job's own
+/// readings and accepted sum. That their squares and products add to what the paper says is asserted wherever coefficients are worked out.
+fn variance_factors(figures: &mut Figures) {
+    for (name, factors, denominator, products) in FACTORS {
+        let job = accepted(name);
+        let coefficients = Coefficients::of(&job);
+        let last = factors.len() - 1;
+        figures.same(name, (0..factors.len()).map(|object| coefficients.factor(object)).collect::<Vec<_>>(), factors.to_vec());
+        figures.same(name, solve(&job).denominator, *denominator);
+        figures.same(name, [(0, 1), (0, last), (last - 1, last)].map(|(i, j)| coefficients.products(i, j)), *products);
+    }
+    let seeded = (0..600).map(|index| damage::seeded(1, index).bytes);
+    let (mut jobs, mut objects) = (0, 0);
+    let mut often: BTreeMap<&str, usize> = BTreeMap::new();
+    for job in stored::trials().into_iter().map(|trial| trial.bytes).chain(seeded).filter_map(|bytes| job::read(&bytes).ok()) {
+        let (v, t) = (job.head.objects(), job.restraint.len());
+        let (coefficients, results) = (Coefficients::of(&job), solve(&job));
+        let sum = Fraction::new(job.sum, t as i128);
+        let found: Vec<i128> = (0..v).map(|object| coefficients.numerator(object, &job.readings, sum)).collect();
+        figures.same("values from the coefficients", found, results.numerators);
+        for (kind, has) in [("all objects members", t == v), ("two members", t == 2), ("the fixed object", job.head.flag == 1), ("one object outside", v == t + 1)] {
+            *often.entry(kind).or_insert(0) += usize::from(has);
+        }
+        (jobs, objects) = (jobs + 1, objects + v);
+    }
+    println!("variance factors of {objects} objects in {jobs} jobs: {often:?}");
+    figures.same("kinds of restraints", often.values().all(|count| *count >= 5), true);
 }

@@ -31,6 +31,9 @@ impl Fraction {
 
     /// This less factor times other, reduced once.
     fn less_product(self, factor: Fraction, other: Fraction) -> Fraction {
+        if factor == Fraction::ZERO || other == Fraction::ZERO {
+            return self;
+        }
         let product = times(factor.top, other.top);
         let bottom = times(factor.bottom, other.bottom);
         let top = times(self.top, bottom).checked_sub(times(product, self.bottom)).expect(TOO_LARGE);
@@ -65,7 +68,7 @@ impl Fraction {
     }
 
     /// The numerator over a given denominator, which must take this fraction whole.
-    fn numerator_over(self, denominator: i128) -> i128 {
+    pub fn numerator_over(self, denominator: i128) -> i128 {
         assert_eq!(denominator % self.bottom, 0, "the denominator does not take the fraction");
         times(self.top, denominator / self.bottom)
     }
@@ -158,10 +161,16 @@ pub fn solve(job: &Job) -> Results {
 }
 
 /// The one set of values that keeps the restraint and has the least sum of squared deviations.
-///
-/// Its equations are those of 000, section 3: for each object the derivative of the sum of squares, with a multiplier for the restraint,
-/// and the restraint itself. Their coefficients are added up from the blocks.
 fn least_squares(job: &Job) -> Vec<Fraction> {
+    least_squares_of(job, &[(totals(job), job.sum)]).remove(0)
+}
+
+/// The same for the job's design and restraint under any readings and accepted sums, each given by the totals of the readings and the sum: one set of values
+/// for each.
+///
+/// The equations are those of 000, section 3: for each object the derivative of the sum of squares, with a multiplier for the restraint,
+/// and the restraint itself. Their coefficients are added up from the blocks.
+pub fn least_squares_of(job: &Job, given: &[(Vec<i128>, i128)]) -> Vec<Vec<Fraction>> {
     let v = job.head.objects();
     let mut coefficients = vec![vec![0i128; v]; v];
     for block in &job.blocks {
@@ -175,24 +184,29 @@ fn least_squares(job: &Job) -> Vec<Fraction> {
     }
     let member = |object: usize| Fraction::whole(job.restraint.contains(&object).into());
     let mut equations: Vec<Vec<Fraction>> = Vec::new();
-    for (i, total) in totals(job).into_iter().enumerate() {
+    for i in 0..v {
         let mut equation: Vec<Fraction> = coefficients[i].iter().map(|number| Fraction::whole(*number)).collect();
-        equation.extend([member(i), Fraction::whole(total)]);
+        equation.push(member(i));
+        equation.extend(given.iter().map(|(totals, _)| Fraction::whole(totals[i])));
         equations.push(equation);
     }
     let mut restraint: Vec<Fraction> = (0..v).map(member).collect();
-    restraint.extend([Fraction::ZERO, Fraction::whole(job.sum)]);
+    restraint.push(Fraction::ZERO);
+    restraint.extend(given.iter().map(|(_, sum)| Fraction::whole(*sum)));
     equations.push(restraint);
 
-    let mut values = eliminated(equations);
-    let multiplier = values.pop().expect("the multiplier is the last unknown");
-    assert_eq!(multiplier, Fraction::ZERO, "the restraint changes the least sum of squares");
-    values
+    let mut solutions = eliminated(equations);
+    for values in &mut solutions {
+        let multiplier = values.pop().expect("the multiplier is the last unknown");
+        assert_eq!(multiplier, Fraction::ZERO, "the restraint changes the least sum of squares");
+    }
+    solutions
 }
 
-/// Elimination and substitution backwards. Each equation ends with its right side.
-fn eliminated(mut equations: Vec<Vec<Fraction>>) -> Vec<Fraction> {
+/// Elimination and substitution backwards. Each equation ends with its right sides, of which each has a solution.
+fn eliminated(mut equations: Vec<Vec<Fraction>>) -> Vec<Vec<Fraction>> {
     let unknowns = equations.len();
+    let columns = equations[0].len();
     for step in 0..unknowns {
         let pivot = (step..unknowns).find(|row| equations[*row][step] != Fraction::ZERO).expect("the equations have more than one solution");
         equations.swap(step, pivot);
@@ -203,20 +217,23 @@ fn eliminated(mut equations: Vec<Vec<Fraction>>) -> Vec<Fraction> {
             if factor == Fraction::ZERO {
                 continue;
             }
-            for column in step..=unknowns {
+            for column in step..columns {
                 equation[column] = equation[column].less_product(factor, chosen[column]);
             }
         }
     }
-    let mut solution = vec![Fraction::ZERO; unknowns];
-    for row in (0..unknowns).rev() {
-        let mut right = equations[row][unknowns];
-        for column in row + 1..unknowns {
-            right = right.less_product(equations[row][column], solution[column]);
+    let solved = |right_side: usize| {
+        let mut solution = vec![Fraction::ZERO; unknowns];
+        for row in (0..unknowns).rev() {
+            let mut right = equations[row][right_side];
+            for column in row + 1..unknowns {
+                right = right.less_product(equations[row][column], solution[column]);
+            }
+            solution[row] = right.over(equations[row][row]);
         }
-        solution[row] = right.over(equations[row][row]);
-    }
-    solution
+        solution
+    };
+    (unknowns..columns).map(solved).collect()
 }
 
 /// The whole number nearest to top/bottom; of two equally near ones, the even one. The bottom is above 0.

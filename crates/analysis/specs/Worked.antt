@@ -1,8 +1,10 @@
 -- Values and deviations as they are worked out from a room of totals and from words, and the record of a job. Assumes nothing.
 use Prim.Native.Nat.{ℕ, _+_, _-_, _*_, _^_, _≤_, _<_}
+use mathlib.Core.Bool.{cond}
 use mathlib.Core.Path.{_≡_}
 use mathlib.Core.List.{List}
 use lib.ListN.{getD}
+use lib.Dec.{eqb}
 use lib.IntN.{ℤ, pos, _-ℤ_, _*ℤ_, natAbs}
 use Rattle.algebra.specs.Ranges.{sumℕ}
 use Rattle.algebra.specs.Buffers.{over}
@@ -43,6 +45,10 @@ overSet w T = restrained 64 w T
 -- the numerator of object i
 abbrev pub numeratorIn : (ℕ → ℤ) → ℕ → ℕ → ℕ → ℤ → ℕ → ℤ
 numeratorIn T v w vb M i = numerator (members v w) (T i) (overSet w T) vb M
+
+-- the variance factor of object i, from the ones of the restraint set w
+abbrev pub factorIn : ℕ → ℕ → ℕ
+factorIn w i = let t = sumℕ 64 (member w) in cond (eqb (member w i) 1) (t - 1) (t + 1)
 
 -- the totals over the left word of block k minus those over the right one
 abbrev pub fittedIn : List ℕ → (ℕ → ℤ) → ℕ → ℤ

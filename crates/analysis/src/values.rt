@@ -9,6 +9,7 @@ use records::Verdict;
 use verdicts::is_refused;
 use verdicts::no_value;
 use weighing::blocks_refusal;
+use words::holds;
 use words::lowest;
 use words::ones;
 use words::without_lowest;
@@ -17,10 +18,11 @@ ghost use Prim.Native.Nat.{_^_, _<_, _≤_};
 ghost use lib.IntN.{natAbs};
 ghost use lib.ListN.{length};
 ghost use Rattle.algebra.specs.Buffers.{over};
-ghost use Rattle.meaning.specs.Analysis.{members, denominator};
+ghost use Rattle.algebra.specs.Ranges.{sumℕ};
+ghost use Rattle.meaning.specs.Analysis.{member, members, denominator};
 ghost use Rattle.meaning.specs.Refusals.{sumLimit};
 ghost use Rattle.meaning.specs.Calls.{valuesVerdict, valuesAfter, valueAnswer};
-ghost use Rattle.analysis.specs.Worked.{totalAt, Totalled, Held, overSet, numeratorIn};
+ghost use Rattle.analysis.specs.Worked.{totalAt, Totalled, Held, overSet, numeratorIn, factorIn};
 
 // The numerators of all objects.
 pub fn values(
@@ -49,7 +51,7 @@ pub fn values(
     solved.verdict
 }
 
-// The value of one object, with its published hundredths and its f64.
+// The value of one object, with its published hundredths, its f64 and its variance factor.
 pub fn value_of(
     head: Head,
     blocks: &[u8],
@@ -85,10 +87,24 @@ pub fn value_of(
         return no_value(verdict);
     }
     let column = column(&values, solved.denominator, set);
-    let value = value_from(values[object], solved.denominator, column[object]);
+    let factor = factor_of(set, object);
+    let value = value_from(values[object], solved.denominator, column[object], factor);
     ObjectValue {
         verdict: Verdict::Accepted,
         value,
+    }
+}
+
+// The variance factor of an object, over the denominator of its value: t - 1 where the restraint set holds it, t + 1 where it does not.
+fn factor_of(set: u64, object: usize) -> u64
+    requires { ⌜ 0 < sumℕ 64 (member set) ⌝ }
+    ensures { λ r. ⌜ r ≡ factorIn set object ⌝ }
+{
+    let t = ones(set);
+    if holds(set, object) == 1 {
+        t - 1
+    } else {
+        t + 1
     }
 }
 

@@ -215,8 +215,8 @@ module _ (h : Head) (d : List ℕ) (y : List ℤ) where
     value-numbered i signed answer real =
         let object = numbered-then listed-numbered (exists-numbered i (objects h)) in
         let tests = numbered-then (numbered-then (numbered-then object (balance-numbered h d)) (restraint-numbered h w M)) (reach-numbered y) in
-        let slots = numbered-then (numbered-then tests (room-numbered (length signed) 2)) (room-numbered (length answer) 1) in
-        numbered-then slots (room-numbered (length real) 1)
+        let slots = numbered-then (numbered-then tests (room-numbered (length signed) 2)) (room-numbered (length answer) 2) in
+        numbered-then slots (room-numbered (length real) 2)
 
     pub write-numbered : (out answer : List ℕ) → Numbered (writtenCall (fileWritten h d y w M out) answer)
     unfolding writtenCall writeVerdict

@@ -112,6 +112,6 @@ below-small a d = by (exact a d) refl
 -- ---- the value
 
 -- it is made from its parts
-pub value-is : (a : ℤ) (d : ℕ) (k b : ℤ) (l : ℤ) (x : Float) → b ≡ a → l ≡ k → x ≡ quotientOf a d
-    → _≡_ {A = Value} (record { numerator = b; denominator = d; hundredths = l; value = x }) (valueFrom a d k)
-value-is a d k b l x e g h = λ j. record { numerator = e j; denominator = d; hundredths = g j; value = h j }
+pub value-is : (a : ℤ) (d : ℕ) (k : ℤ) (n : ℕ) (b l : ℤ) (x z : Float) → b ≡ a → l ≡ k → x ≡ quotientOf a d → z ≡ quotientOf (pos n) d
+    → _≡_ {A = Value} (record { numerator = b; denominator = d; hundredths = l; value = x; factor = n; «factor_value» = z }) (valueFrom a d k n)
+value-is a d k n b l x z e g h q = λ j. record { numerator = e j; denominator = d; hundredths = g j; value = h j; factor = n; «factor_value» = q j }

@@ -31,6 +31,7 @@ partOf a d = cond (exact a d) (part (pos 100 *ℤ a) d) 0
 abbrev pub liftedOf : ℤ → ℕ → ℕ
 liftedOf a d = cond (minus a) (100 * natAbs a + (d - 1)) (100 * natAbs a)
 
--- a fraction with its published hundredths and its f64
-abbrev pub valueFrom : ℤ → ℕ → ℤ → Value
-valueFrom a d k = record { numerator = a; denominator = d; hundredths = k; value = quotientOf a d }
+-- a fraction with its published hundredths and its f64, and a variance factor over the same denominator with its own
+abbrev pub valueFrom : ℤ → ℕ → ℤ → ℕ → Value
+valueFrom a d k n =
+    record { numerator = a; denominator = d; hundredths = k; value = quotientOf a d; factor = n; «factor_value» = quotientOf (pos n) d }

@@ -3,7 +3,7 @@
 use records::Value;
 ghost use mathlib.Core.Path.{_≡_};
 ghost use mathlib.Core.Bool.{true};
-ghost use lib.IntN.{natAbs};
+ghost use lib.IntN.{pos, natAbs};
 ghost use Rattle.meaning.specs.Publishing.{float};
 ghost use Rattle.arithmetic.specs.Quotient.{exact, quotientOf, valueFrom};
 
@@ -18,16 +18,29 @@ pub(crate) fn quotient(numerator: i64, denominator: u64) -> f64
     }
 }
 
-// A fraction with its published hundredths and its f64. Every Value is made here.
-pub fn value_from(numerator: i64, denominator: u64, hundredths: i64) -> Value
-    ensures { λ r. ⌜ r ≡ valueFrom numerator denominator hundredths ⌝ }
+// The same of a numerator from 0 on: one that is no i64 is outside the exact range.
+pub(crate) fn unsigned_quotient(numerator: u64, denominator: u64) -> f64
+    ensures { λ r. ⌜ r ≡ quotientOf (pos numerator) denominator ⌝ }
+{
+    if 9007199254740992 <= numerator {
+        return 0.0;
+    }
+    quotient(numerator as i64, denominator)
+}
+
+// A fraction with its published hundredths and its f64, and a variance factor over the same denominator with its own. Every Value is made here.
+pub fn value_from(numerator: i64, denominator: u64, hundredths: i64, factor: u64) -> Value
+    ensures { λ r. ⌜ r ≡ valueFrom numerator denominator hundredths factor ⌝ }
 {
     let value = quotient(numerator, denominator);
+    let factor_value = unsigned_quotient(factor, denominator);
     Value {
         numerator,
         denominator,
         hundredths,
         value,
+        factor,
+        factor_value,
     }
 }
 

@@ -1,8 +1,10 @@
--- What the customer signs: the three demands, each for every byte string and for every direct call, and the requests on writing jobs, on fields and on the
--- second edition. Each is a record of specs/, with a field for each clause of the customer's sentence; here stand the proofs, by the laws of the definitions.
+-- What the customer signs: the three demands, each for every byte string and for every direct call, and the requests on writing jobs, on fields, on the
+-- second edition and on uncertainty. Each is a record of specs/, with a field for each clause of the customer's sentence; here stand the proofs, by the
+-- laws of the definitions.
 --     demand-1, demand-1-calls       specs/Demand1, specs/Calls      refused by number, place and order, and nothing lent is changed
 --     demand-2, demand-2-calls       specs/Demand2, specs/Answers    accepted exactly if balanced, and the paper's fractions
 --     demand-3, demand-3-calls       specs/Demand3                   the exact values are best, and the published ones near
+--     uncertainty-per-object         specs/Uncertainty               a variance factor is the sum of squared coefficients (02, P8)
 --     writing-jobs, writing-files    specs/Writing                   each accepted job has exactly one file (02, P1)
 --     designs-over-fields, the-fields    specs/Fields                what the addition of a field is, and what is refused (02, P4)
 --     files-of-the-first-edition, files-of-the-second-edition    specs/Edition2    moved from one edition to the other (02, P7)
@@ -26,6 +28,7 @@ use Rattle.demands.specs.Demand2.{Demand2}
 use Rattle.demands.specs.Answers.{Demand2Calls}
 use Rattle.demands.specs.Demand3.{Demand3, Demand3Calls}
 use Rattle.demands.specs.Fields.{OverFields, TheFields}
+use Rattle.demands.specs.Uncertainty.{UncertaintyPerObject, UncertaintyPerObjectCalls}
 use Rattle.demands.specs.Writing.{WritingJobs, WritingFiles}
 use Rattle.demands.specs.Edition2.{FirstEdition, SecondEdition}
 use Rattle.demands.proofs.Order.{file-order, rooms-last, reading-ends, solving-ends, keeps-position, fields-led}
@@ -35,6 +38,7 @@ use Rattle.demands.proofs.Papers.{papers-fractions}
 use Rattle.demands.proofs.Answers.{answering, three-written}
 use Rattle.demands.proofs.Published.{least-squares}
 use Rattle.demands.proofs.Fields.{over-fields, listed-fields}
+use Rattle.demands.proofs.Uncertainty.{uncertainty}
 use Rattle.demands.proofs.Writing.{jobs-written, files-written}
 use Rattle.demands.proofs.Edition2.{first-edition, second-edition}
 
@@ -91,6 +95,12 @@ demand-3 s e = least-squares (jobIn s) (file-job s e .1)
 
 pub demand-3-calls : (j : Job) → Demand3Calls j
 demand-3-calls = least-squares
+
+pub uncertainty-per-object : (s : List ℕ) → UncertaintyPerObject s
+uncertainty-per-object s e = uncertainty (jobIn s) (file-job s e .1)
+
+pub uncertainty-per-object-calls : (j : Job) → UncertaintyPerObjectCalls j
+uncertainty-per-object-calls = uncertainty
 
 pub writing-jobs : (j : Job) → WritingJobs j
 writing-jobs = jobs-written

@@ -7,6 +7,7 @@ pub mod Papers
 pub mod Whole
 pub mod Answers
 pub mod Published
+pub mod Uncertainty
 pub mod Writing
 pub mod Fields
 pub mod FourFields

@@ -1,4 +1,4 @@
--- Worked instances of what the demands speak of, rows of three tables with a theorem each: a definition of specs/ that is changed turns one of them over.
+-- Worked instances of what the demands speak of, rows of four tables with a theorem each: a definition of specs/ that is changed turns one of them over.
 -- The figures were worked out apart from the definitions. Assumes nothing.
 use mathlib.Core.Bool.{Bool, true, _&&_}
 use mathlib.Core.List.{List, [], _∷_, _++_, replicate}
@@ -12,7 +12,7 @@ use Rattle.algebra.specs.Ranges.{eqZ, sum, sumℕ, firstFrom}
 use Rattle.records.specs.declared.Head.{Head}
 use Rattle.records.specs.declared.Verdict.{Verdict}
 use Rattle.meaning.specs.Design.{fieldPrime, sized, occ, digitSum, plus, left, right, company, opposition, balanced, beta}
-use Rattle.meaning.specs.Analysis.{total, members, restrained, numeratorOf, denominatorOf}
+use Rattle.meaning.specs.Analysis.{total, members, restrained, numeratorOf, denominatorOf, coefficient, factor}
 use Rattle.meaning.specs.Publishing.{rank, shortfall, published}
 use Rattle.meaning.specs.Fractions.{Fraction, _+ᶠ_, squared, summed, valuesAlong, deviationUnder, squaresUnder}
 use Rattle.meaning.specs.Refusals.{number, place, offender, farReading}
@@ -25,9 +25,10 @@ use Rattle.meaning.proofs.Examples.{fileA}
 use Rattle.demands.specs.Job.{Job, jobIn, verdictOf, exact, squares, published as publishedOf}
 use Rattle.demands.specs.Refusals.{four, threeBlocks, threeReadings, five, fiveFor, six, seven, eleven, eight, ten, fileTests}
 use Rattle.demands.specs.Outcomes.{wordsAfter}
-use Rattle.demands.specs.Fractions.{distance, dividedBy, hundredths}
+use Rattle.demands.specs.Fractions.{_*ᶠ_, distance, dividedBy, hundredths}
 use Rattle.demands.specs.Papers.{standardDeviationSquared}
 use Rattle.demands.specs.Demand3.{hundredth, halfHundredth, excess}
+use Rattle.demands.specs.Uncertainty.{coefficientOf, factorOf}
 
 -- a verdict with the number and the place that it has; two fractions that are one; one that is at most, and one that is below another; what a room holds
 pub data Row : Type 0 where
@@ -165,6 +166,24 @@ publishedRows =
     ∷ same (excess (jobIn fileA)) (over 1 400)
     ∷ []
 
+-- ---- uncertainty: example A has 1/10 for its members and 3/10 for the others, thirds 2/9 for all
+abbrev uncertaintyRows : List Row
+uncertaintyRows =
+    same (factorOf (jobIn fileA) 0) (over 1 10)
+    ∷ same (factorOf (jobIn fileA) 2) (over 3 10)
+    ∷ same (factorOf thirds 0) (over 2 9)
+    ∷ same (coefficientOf (jobIn fileA) 0 1) (over 1 10)
+    ∷ same (coefficientOf (jobIn fileA) 0 4) (over 2 10)
+    ∷ same (coefficientOf (jobIn fileA) 2 1) (over 1 10)
+    ∷ same (coefficientOf (jobIn fileA) 2 3) (over 4 10)
+    ∷ same (coefficientOf thirds 2 2) (over 3 9)
+    ∷ same (summed 5 (λ k. squared (coefficientOf (jobIn fileA) 0 k))) (over 1 10)
+    ∷ same (summed 5 (λ k. squared (coefficientOf (jobIn fileA) 2 k))) (over 3 10)
+    ∷ same (summed 5 (λ k. coefficientOf (jobIn fileA) 0 k *ᶠ coefficientOf (jobIn fileA) 2 k)) (over 0 10)
+    ∷ same (summed 5 (λ k. coefficientOf (jobIn fileA) 2 k *ᶠ coefficientOf (jobIn fileA) 3 k)) (over 1 10)
+    ∷ same (over 1 2 *ᶠ over 3 4) (over 3 8)
+    ∷ []
+
 -- ---- every row holds
 
 abbrev pub refusalRows : List Row
@@ -184,6 +203,10 @@ pub published-rows : every publishedRows ≡ true
 unfolding occ fieldPrime digitSum plus left right company opposition beta total members restrained numeratorOf denominatorOf rank shortfall published big numbersAt
     summed valuesAlong deviationUnder squaresUnder sum sumℕ
 published-rows = refl
+
+pub uncertainty-rows : every uncertaintyRows ≡ true
+unfolding occ plus left right company opposition beta members restrained denominatorOf coefficient factor big numbersAt summed sum sumℕ
+uncertainty-rows = refl
 
 -- the request's example A is written as its 56 bytes
 pub example-A-is-written : fileOf (head 5 0 2 1) (1 ∷ 4 ∷ 2 ∷ 3 ∷ []) (pos 11 ∷ negsuc 2 ∷ pos 4 ∷ pos 1 ∷ negsuc 7 ∷ []) 3 (pos 7) ≡ fileA

@@ -10,6 +10,7 @@ pub mod Papers
 pub mod Demand2
 pub mod Answers
 pub mod Demand3
+pub mod Uncertainty
 pub mod Writing
 pub mod Fields
 pub mod Edition2

@@ -21,6 +21,7 @@ use Rattle.meaning.specs.Analysis.{
   vbeta,
   numeratorOf,
   denominatorOf,
+  factor,
   along,
   deviationOf,
   squaredReadings,
@@ -105,8 +106,15 @@ module _ (j : Job) where
     pub numerator : top i ≡ pos t *ℤ total h d y i -ℤ restrained (v j) w (total h d y) +ℤ pos (v j * beta h d) *ℤ M
     pub denominator : bottom ≡ t * (v j * beta h d)
     pub denominator-positive : 0 < bottom
-    -- it is handed out with its hundredths and its f64,
-    pub handed-out : valueOf h d y w M i ≡ record { numerator = top i; denominator = bottom; hundredths = published h d y w M i; value = float (top i) bottom }
+    -- it is handed out with its hundredths and its f64 (and with its variance factor, of which Uncertainty speaks),
+    pub handed-out : valueOf h d y w M i ≡ record {
+      numerator = top i;
+      denominator = bottom;
+      hundredths = published h d y w M i;
+      value = float (top i) bottom;
+      factor = factor h w i;
+      «factor_value» = float (pos (factor h w i)) bottom;
+    }
     -- one division of two whole numbers that convert without loss, which is away from the fraction by at most its size over 2 to the 53rd
     pub numerator-converts : natAbs (top i) < 2 ^ 53
     pub denominator-converts : bottom < 2 ^ 53

@@ -14,6 +14,7 @@ pub mod Column
 pub mod Sizes
 pub mod Files
 pub mod Fractions
+pub mod Variance
 pub mod Bytes
 pub mod Writing
 pub mod Lengths

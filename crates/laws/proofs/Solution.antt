@@ -45,7 +45,7 @@ unfolding members
 members-most v w = omega (arith, sumℕ-le-const v 1 (member w) (λ i l. omega (arith, mod-lt (w / 2 ^ i) {m = 2} (omega arith))))
 
 -- the members counted with a sign
-members-sum : (v w : ℕ) → sum v (λ i. pos (member w i)) ≡ pos (members v w)
+pub members-sum : (v w : ℕ) → sum v (λ i. pos (member w i)) ≡ pos (members v w)
 unfolding members
 members-sum v w = sym (pos-sum v (member w))
 

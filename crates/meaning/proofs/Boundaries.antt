@@ -21,6 +21,8 @@ use Rattle.meaning.specs.Analysis.{
   restrained,
   numeratorOf,
   denominatorOf,
+  coefficient,
+  factor,
   along,
   difference,
   deviationOf,
@@ -625,6 +627,31 @@ table = sizeRows ++ designRows ++ sumRows ++ callRows ++ publishingRows ++ heldR
 pub boundaries : every table ≡ true
 unfolding table listingRows wide fieldPrime sized occ digitSum plus left right company opposition balanced beta total members restrained numeratorOf denominatorOf along difference deviationOf squaredReadings squaredTotals qOf root spreadHundredths spreadHundredthsOf rank shortfall published offender farReading word wordAt tableOf designVerdict developVerdict initialVerdict judgeVerdict slices contents jobVerdict totalVerdict valuesVerdict valueVerdict readingsVerdict deviationsVerdict deviationVerdict squaredReadingsVerdict squaredTotalsVerdict rooms analyseVerdict big numbersAt fieldVerdict fieldAt fields readVerdict solveVerdict bytesOf readingsBody fileOf writeVerdict ascii digits each textOf benchText over sum sumℕ firstFrom round
 boundaries = refl
+
+-- ---- the variance factors and the coefficients: of example A, of three objects with one that is no member and with members only, and of a refusal
+abbrev factorRows : List Row
+factorRows =
+    counting 5 (coefficient (headOf fileA) (blocksOf fileA) 3 0) (negsuc 0 ∷ pos 1 ∷ negsuc 1 ∷ pos 0 ∷ pos 2 ∷ [])
+    ∷ counting 5 (coefficient (headOf fileA) (blocksOf fileA) 3 2) (negsuc 2 ∷ pos 1 ∷ pos 0 ∷ pos 4 ∷ negsuc 1 ∷ [])
+    ∷ counting 3 (coefficient three pair 5 1) (negsuc 2 ∷ pos 3 ∷ pos 0 ∷ [])
+    ∷ counting 3 (coefficient three pair 7 2) (pos 0 ∷ negsuc 2 ∷ pos 3 ∷ [])
+    ∷ holding
+    (valueAnswer (headOf fileA) (blocksOf fileA) ysA 3 (pos 7) 0 .value .factor ∷ valueAnswer (headOf fileA) (blocksOf fileA) ysA 3 (pos 7) 2 .value .factor
+    ∷ valueAnswer three pair ys 5 (negsuc 0) 1 .value .factor ∷ valueAnswer three pair ys 5 (negsuc 0) 2 .value .factor
+    ∷ valueAnswer three pair ys 7 (negsuc 0) 0 .value .factor ∷ valueAnswer three pair ys 7 (negsuc 0) 2 .value .factor
+    ∷ valueAnswer three pair ys 1 (negsuc 0) 0 .value .factor ∷ valueAnswer three pair ys 0 (negsuc 0) 1 .value .factor ∷ noValue .factor ∷ [])
+    (1 ∷ 3 ∷ 3 ∷ 1 ∷ 2 ∷ 2 ∷ 0 ∷ 0 ∷ 0 ∷ [])
+    ∷ floats (valueAnswer (headOf fileA) (blocksOf fileA) ysA 3 (pos 7) 0 .value .«factor_value») (fin false 3602879701896397 (negsuc 54)) 1
+    ∷ floats (valueAnswer (headOf fileA) (blocksOf fileA) ysA 3 (pos 7) 2 .value .«factor_value») (fin false 5404319552844595 (negsuc 53)) 1
+    ∷ floats (valueAnswer three pair ys 5 (negsuc 0) 1 .value .«factor_value») (fin false 1 (negsuc 0)) 1
+    ∷ floats (valueAnswer three pair ys 7 (negsuc 0) 0 .value .«factor_value») (fin false 2001599834386887 (negsuc 52)) 1
+    ∷ floats (valueAnswer three pair ys 0 (negsuc 0) 1 .value .«factor_value») floatZero 1
+    ∷ floats (noValue .«factor_value») floatZero 1
+    ∷ []
+
+pub factors : every factorRows ≡ true
+unfolding sized occ plus left right company opposition balanced beta members restrained denominatorOf coefficient factor offender farReading slices contents jobVerdict valueVerdict big numbersAt sum sumℕ firstFrom round
+factors = refl
 
 -- ---- how near an f64 is, and any set of values
 

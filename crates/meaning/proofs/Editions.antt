@@ -9,7 +9,7 @@ use lib.Ieee.{round}
 use lib.ListN.{getD, set, take}
 use Rattle.algebra.specs.Buffers.{over}
 use Rattle.algebra.specs.Ranges.{sum, sumℕ, firstFrom}
-use Rattle.meaning.specs.Design.{sized, occ, plus, left, right, company, opposition, balanced, beta}
+use Rattle.meaning.specs.Design.{sized, occ, plus, left, right, company, opposition, balanced, beta, fieldPrime, digitSum}
 use Rattle.meaning.specs.Analysis.{
   total,
   members,
@@ -26,7 +26,7 @@ use Rattle.meaning.specs.Analysis.{
   spreadHundredths,
   spreadHundredthsOf,
 }
-use Rattle.meaning.specs.Publishing.{published}
+use Rattle.meaning.specs.Publishing.{rank, shortfall, published}
 use Rattle.meaning.specs.Refusals.{offender, farReading}
 use Rattle.meaning.specs.Calls.{wordAt, word, slices, contents, rooms}
 use Rattle.meaning.specs.File.{big, numbersAt, fieldVerdict, fields, readVerdict, solveVerdict}
@@ -193,5 +193,5 @@ unfoldable pub table : List Row
 table = readingRows ++ movingRows
 
 pub editions : every table ≡ true
-unfolding table sized occ plus left right company opposition balanced beta total members restrained numeratorOf denominatorOf along difference deviationOf squaredReadings squaredTotals qOf root spreadHundredths spreadHundredthsOf published offender farReading word wordAt slices contents rooms big numbersAt fieldVerdict fields readVerdict solveVerdict bytesOf readingsBody fileOf ascii digits each textOf over sum sumℕ firstFrom round edition fourOf optionalVerdict optionals optionalFields fields2 readVerdict2 solveVerdict2 textOf2 fileOf2 writeVerdict2 toSecondVerdict toFirstVerdict
+unfolding table sized occ fieldPrime digitSum plus left right company opposition balanced beta total members restrained numeratorOf denominatorOf along difference deviationOf squaredReadings squaredTotals qOf root spreadHundredths spreadHundredthsOf rank shortfall published offender farReading word wordAt slices contents rooms big numbersAt fieldVerdict fields readVerdict solveVerdict bytesOf readingsBody fileOf ascii digits each textOf over sum sumℕ firstFrom round edition fourOf optionalVerdict optionals optionalFields fields2 readVerdict2 solveVerdict2 textOf2 fileOf2 writeVerdict2 toSecondVerdict toFirstVerdict
 editions = refl

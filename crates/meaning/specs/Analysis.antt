@@ -4,7 +4,7 @@ use mathlib.Core.Bool.{cond}
 use mathlib.Core.List.{List, [], _∷_}
 use lib.ListN.{getD}
 use lib.IntN.{ℤ, pos, _+ℤ_, _-ℤ_, _*ℤ_, natAbs}
-use lib.Dec.{leb}
+use lib.Dec.{eqb, leb}
 use Rattle.algebra.specs.Ranges.{sum, sumℕ}
 use Rattle.records.specs.declared.Head.{Head}
 use Rattle.meaning.specs.Design.{objects, blocks, occ, left, right, beta}
@@ -56,6 +56,14 @@ numeratorOf h d y w M i = numerator (members (objects h) w) (total h d y i) (res
 -- the denominator of every value of a job
 unfoldable pub denominatorOf : Head → List ℕ → ℕ → ℕ
 denominatorOf h d w = denominator (members (objects h) w) (vbeta h d)
+
+-- the coefficient with which reading k enters the value of object i: its numerator, over t·v·beta
+unfoldable pub coefficient : Head → List ℕ → ℕ → ℕ → ℕ → ℤ
+coefficient h d w i k = pos (members (objects h) w) *ℤ sign h d k i -ℤ restrained (objects h) w (sign h d k)
+
+-- the variance factor of object i: its numerator, over t·v·beta; t - 1 for a member of the restraint set, t + 1 for any other object
+unfoldable pub factor : Head → ℕ → ℕ → ℕ
+factor h w i = let t = members (objects h) w in cond (eqb (member w i) 1) (t - 1) (t + 1)
 
 -- the sum of f over a list of objects
 unfoldable pub along : (ℕ → ℤ) → List ℕ → ℤ

@@ -12,7 +12,7 @@ use Rattle.records.specs.declared.Value.{Value}
 use Rattle.records.specs.declared.Spread.{Spread}
 use Rattle.records.specs.declared.Spread.the-variants.{Of, None}
 use Rattle.meaning.specs.Design.{objects}
-use Rattle.meaning.specs.Analysis.{member, restrained, numeratorOf, denominatorOf}
+use Rattle.meaning.specs.Analysis.{member, restrained, numeratorOf, denominatorOf, factor}
 
 -- whether x is below zero
 abbrev pub minus : ℤ → Bool
@@ -86,13 +86,13 @@ Near bits nan a d = ⊥
 Near bits (inf s) a d = ⊥
 Near bits (fin s m e) a d = (s ≡ minus a) × (gap (m * up e * d) (natAbs a * down e) * 2 ^ bits ≤ natAbs a * down e)
 
--- the result of object i in a job, and that of a refusal
+-- the result of object i in a job, its variance factor over the value's own denominator; and that of a refusal
 abbrev pub valueOf : Head → List ℕ → List ℤ → ℕ → ℤ → ℕ → Value
-valueOf h d y w M i = let a = numeratorOf h d y w M i in let e = denominatorOf h d w in
-    record { numerator = a; denominator = e; hundredths = published h d y w M i; value = float a e }
+valueOf h d y w M i = let a = numeratorOf h d y w M i in let e = denominatorOf h d w in let n = factor h w i in
+    record { numerator = a; denominator = e; hundredths = published h d y w M i; value = float a e; factor = n; «factor_value» = float (pos n) e }
 
 abbrev pub noValue : Value
-noValue = record { numerator = pos 0; denominator = 0; hundredths = pos 0; value = floatZero }
+noValue = record { numerator = pos 0; denominator = 0; hundredths = pos 0; value = floatZero; factor = 0; «factor_value» = floatZero }
 
 -- no spread
 abbrev pub noSpread : Spread

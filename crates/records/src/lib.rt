@@ -30,12 +30,15 @@ pub struct Parameters {
     pub l2: u64,
 }
 
-// One object's value: a fraction that is not reduced, its published hundredths of a count, and its f64.
+// One object's value: a fraction that is not reduced, its published hundredths of a count, and its f64; then its variance factor, the numerator over the
+// same denominator, and the factor's f64.
 pub struct Value {
     pub numerator: i64,
     pub denominator: u64,
     pub hundredths: i64,
     pub value: f64,
+    pub factor: u64,
+    pub factor_value: f64,
 }
 
 // A number of two words of 64 bits, the high one first: high times 2 to the power 64, and low.

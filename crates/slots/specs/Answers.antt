@@ -59,19 +59,19 @@ module _ (s : SquareSum) (answer : List ℕ) where
   abbrev pub sumLaid : List ℕ
   sumLaid = laid sumCall (s .sum .high ∷ s .sum .low ∷ []) answer
 
--- the value of one object: numerator, hundredths; denominator; its f64
+-- the value of one object: numerator, hundredths; denominator, variance factor; its f64, that of the factor
 module _ (x : ObjectValue) (signed : List ℤ) (answer : List ℕ) (real : List Float) where
   unfoldable pub valueCall : Verdict
-  valueCall = x .verdict ⨾ room (length signed) 2 ⨾ room (length answer) 1 ⨾ room (length real) 1
+  valueCall = x .verdict ⨾ room (length signed) 2 ⨾ room (length answer) 2 ⨾ room (length real) 2
 
   abbrev pub valueSigned : List ℤ
   valueSigned = laid valueCall (x .value .numerator ∷ x .value .hundredths ∷ []) signed
 
   abbrev pub valueLaid : List ℕ
-  valueLaid = laid valueCall (x .value .denominator ∷ []) answer
+  valueLaid = laid valueCall (x .value .denominator ∷ x .value .factor ∷ []) answer
 
   abbrev pub valueReal : List Float
-  valueReal = laid valueCall (x .value .value ∷ []) real
+  valueReal = laid valueCall (x .value .value ∷ x .value .«factor_value» ∷ []) real
 
 -- the deviation of one block: numerator; denominator
 module _ (x : BlockDeviation) (signed : List ℤ) (answer : List ℕ) where

@@ -59,13 +59,13 @@ pub fn lay_value(
     let tested = found.verdict;
     let value = found.value;
     let signed_tested = with_room(tested, signed.len(), 2);
-    let answer_tested = with_room(signed_tested, answer.len(), 1);
-    let verdict = with_room(answer_tested, real.len(), 1);
+    let answer_tested = with_room(signed_tested, answer.len(), 2);
+    let verdict = with_room(answer_tested, real.len(), 2);
     let numbers = [value.numerator, value.hundredths];
     lay_signed(verdict, &numbers, signed);
-    let slots = [value.denominator];
+    let slots = [value.denominator, value.factor];
     lay(verdict, &slots, answer);
-    let reals = [value.value];
+    let reals = [value.value, value.factor_value];
     lay_real(verdict, &reals, real);
     told(verdict)
 }

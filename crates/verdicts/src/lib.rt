@@ -94,6 +94,8 @@ pub fn no_value(verdict: Verdict) -> ObjectValue
         denominator: 0,
         hundredths: 0,
         value: 0.0,
+        factor: 0,
+        factor_value: 0.0,
     };
     ObjectValue { verdict, value }
 }

@@ -57,7 +57,7 @@ calls! {
     refusal = bench_refusal(n: usize, flag: usize, p: usize, m: usize, blocks: &[u8], readings: &[i32], set: u64, sum: i64,);
     /// The v numerators of the values.
     values = bench_values(n: usize, flag: usize, p: usize, m: usize, blocks: &[u8], readings: &[i32], set: u64, sum: i64, values: &mut [i64],);
-    /// The value of one object: numerator, hundredths; denominator; its f64.
+    /// The value of one object: numerator, hundredths; denominator, variance factor; the f64s of the value and of the factor.
     value_of = bench_value_of(n: usize, flag: usize, p: usize, m: usize, blocks: &[u8], readings: &[i32], set: u64, sum: i64, object: usize,
         signed_slots: &mut [i64], answer: &mut [u64], real: &mut [f64],);
     /// The v published hundredths.

@@ -148,13 +148,36 @@ pub struct Parameters {
     pub l2: u64,
 }
 
-/// The value of one object: a fraction that is not reduced, its published hundredths of a count, as [`published`] has them, and its f64.
+/// The value of one object: a fraction that is not reduced, its published hundredths of a count, as [`published`] has them, and its f64; and its variance factor.
 #[derive(Debug, Clone, Copy, PartialEq)]
 pub struct Value {
     pub numerator: i64,
     pub denominator: u64,
     pub hundredths: i64,
     pub value: f64,
+    /// The numerator of the variance factor, over the same denominator: t - 1 for a member of the restraint, t + 1 for any other object. The factor is the sum of
+    /// the squares of the coefficients with which the readings enter the value.
+    pub factor: u64,
+    /// The factor as an f64.
+    pub factor_value: f64,
+}
+
+impl Value {
+    /// The standard deviation of this value, in counts: the spread of the readings times the root of the variance factor. None where there is no spread.
+    ///
+    /// This is computed here in floating point, and not proved. What is proved is what it is made from: the spread, cut to hundredths of a count, and the factor.
+    ///
+    /// ```
+    /// # use mass_bench::{spread, value_of, Head};
+    /// let (head, blocks, readings) = (Head { n: 5, flag: 0, p: 2, m: 1 }, [1, 4, 2, 3], [11, -3, 4, 1, -8]);
+    /// let spread = spread(head, &blocks, &readings)?.spread;
+    /// let standard_deviation = |object| value_of(head, &blocks, &readings, 0b11, 7, object).map(|value| value.standard_deviation(spread).unwrap());
+    /// assert_eq!(format!("{:.4} {:.4}", standard_deviation(1)?, standard_deviation(2)?), "0.7052 1.2214");
+    /// # Ok::<(), mass_bench::Refusal>(())
+    /// ```
+    pub fn standard_deviation(&self, spread: Option<Spread>) -> Option<f64> {
+        spread.map(|spread| spread.value * self.factor_value.sqrt())
+    }
 }
 
 /// The deviation of one block: a fraction that is not reduced.
@@ -410,19 +433,21 @@ pub fn values(head: Head, blocks: &[u8], readings: &[i32], set: u64, sum: i64) -
     Ok(values)
 }
 
-/// The value of one object.
+/// The value of one object, with its variance factor.
 ///
 /// ```
 /// # use mass_bench::{value_of, Head};
 /// let value = value_of(Head { n: 5, flag: 0, p: 2, m: 1 }, &[1, 4, 2, 3], &[11, -3, 4, 1, -8], 0b11, 7, 1)?;
 /// assert_eq!((value.numerator, value.denominator, value.hundredths, value.value), (73, 10, 730, 7.3));
+/// assert_eq!((value.factor, value.factor_value), (1, 0.1));
 /// # Ok::<(), mass_bench::Refusal>(())
 /// ```
 pub fn value_of(head: Head, blocks: &[u8], readings: &[i32], set: u64, sum: i64, object: usize) -> Result<Value, Refusal> {
     let Head { n, flag, p, m } = head;
-    let (mut signed, mut answer, mut real) = ([0; 2], [0], [0.0]);
+    let (mut signed, mut answer, mut real) = ([0; 2], [0; 2], [0.0; 2]);
     refusal_in(calls::value_of(n, flag, p, m, blocks, readings, set, sum, object, &mut signed, &mut answer, &mut real))?;
-    Ok(Value { numerator: signed[0], denominator: answer[0], hundredths: signed[1], value: real[0] })
+    let ([numerator, hundredths], [denominator, factor], [value, factor_value]) = (signed, answer, real);
+    Ok(Value { numerator, denominator, hundredths, value, factor, factor_value })
 }
 
 /// The published hundredths of a count of all objects. Members of the restraint have the whole number at or below 100 times their value, and what then lacks

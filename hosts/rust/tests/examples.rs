@@ -141,10 +141,30 @@ fn one_standard_is_too_few() {
 fn values_are_worked_out() {
     assert_eq!(values(A, &BLOCKS, &READINGS, SET, SUM).unwrap(), [-3, 73, 19, 5, 51]);
     assert_eq!(values(A, &BLOCKS, &READINGS, 0, SUM), refused(Reason::BadRestraint, 0));
-    assert_eq!(value_of(A, &BLOCKS, &READINGS, SET, SUM, 0), Ok(Value { numerator: -3, denominator: 10, hundredths: -30, value: -0.3 }));
+    let first = Value { numerator: -3, denominator: 10, hundredths: -30, value: -0.3, factor: 1, factor_value: 0.1 };
+    assert_eq!(value_of(A, &BLOCKS, &READINGS, SET, SUM, 0), Ok(first));
+    let third = Value { numerator: 19, denominator: 10, hundredths: 190, value: 1.9, factor: 3, factor_value: 0.3 };
+    assert_eq!(value_of(A, &BLOCKS, &READINGS, SET, SUM, 2), Ok(third));
     assert_eq!(value_of(A, &BLOCKS, &READINGS, SET, SUM, 5), refused(Reason::BadObject, 5));
     // a place of the caller's own is told modulo 2^48
     assert_eq!(value_of(A, &BLOCKS, &READINGS, SET, SUM, usize::MAX), refused(Reason::BadObject, (1 << 48) - 1));
+}
+
+#[test]
+fn variance_factors_are_handed_out() {
+    // t - 1 for members of the restraint, t + 1 for the others, over t times v beta, which is 5 here; all five are members of the last set
+    for set in [0b11, 0b10001, 0b10110, 0b11110, 0b11111u64] {
+        let t = u64::from(set.count_ones());
+        for object in 0..5 {
+            let value = value_of(A, &BLOCKS, &READINGS, set, SUM, object).unwrap();
+            let factor = if set >> object & 1 == 1 { t - 1 } else { t + 1 };
+            assert_eq!((value.factor, value.denominator), (factor, 5 * t), "set {set}, object {object}");
+            assert_eq!(value.factor_value, factor as f64 / (5 * t) as f64, "set {set}, object {object}");
+            let spread = spread(A, &BLOCKS, &READINGS).unwrap().spread;
+            assert_eq!(value.standard_deviation(spread), Some(2.23 * value.factor_value.sqrt()), "set {set}, object {object}");
+            assert_eq!(value.standard_deviation(None), None);
+        }
+    }
 }
 
 #[test]
@@ -394,7 +414,7 @@ fn slots_of_several_kinds() {
     let (b, y) = (&BLOCKS[..], &READINGS[..]);
     slots(
         "value_of",
-        (vec![73, 730], vec![10], vec![7.3]),
+        (vec![73, 730], vec![10, 1], vec![7.3, 0.1]),
         |signed, answer, real| calls::value_of(n, flag, p, m, b, y, SET, SUM, 1, signed, answer, real),
         5 + (6 << 16),
         |signed, answer, real| calls::value_of(n, flag, p, m, b, y, SET, SUM, 6, signed, answer, real),

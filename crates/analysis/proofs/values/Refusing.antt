@@ -1,25 +1,31 @@
 -- The verdicts of values, from that of a whole job worked out in rooms that are long enough, and the Value of an object. Assumes nothing.
 use mathlib.Core.Path.{_≡_, refl, sym, ap, _∙_}
-use mathlib.Core.Bool.{true, false}
+use mathlib.Core.Bool.{true, false, cond}
 use mathlib.Core.List.{List}
-use Prim.Native.Nat.{ℕ, _≤_, _<_}
+use Prim.Native.Nat.{ℕ, _+_, _-_, _≤_, _<_}
+use native.Mathlib.Omega.{arith}
 use borrow.Author.Tests.{lt-ltb, le-ltb, le-leb, lt-leb}
-use lib.Dec.{ltb, leb}
-use lib.IntN.{ℤ}
+use lib.Dec.{eqb, ltb, leb}
+use lib.IntN.{ℤ, pos}
+use Rattle.algebra.specs.Ranges.{sumℕ}
 use Rattle.records.specs.declared.Head.{Head}
 use Rattle.records.specs.declared.Verdict.{Verdict}
 use Rattle.records.specs.declared.Verdict.the-variants.{Accepted, Refused}
 use Rattle.records.specs.declared.Value.{Value}
 use Rattle.records.specs.declared.ObjectValue.{ObjectValue}
 use Rattle.meaning.specs.Design.{objects}
-use Rattle.meaning.specs.Analysis.{numeratorOf, denominatorOf}
+use Rattle.meaning.specs.Analysis.{member, members, numeratorOf, denominatorOf, factor}
 use Rattle.meaning.specs.Publishing.{published, valueOf, noValue}
 use Rattle.meaning.specs.Refusals.{_⨾_, accepted, refused, number, place, clean, inBalance, restraint, inReach, room}
 use Rattle.meaning.specs.Calls.{given, slices, contents, jobVerdict, rooms, analyseVerdict, valuesVerdict, valueVerdict, valueAnswer}
 use Rattle.laws.proofs.Chains.{Job, opened, accepts, goes-on, refused-stays, test-yes, test-no, job}
+use Rattle.laws.proofs.Analysis.{job-members}
+use Rattle.laws.proofs.Variance.{factor-most}
+use Rattle.words.proofs.Members.{ones-members}
 use Rattle.verdicts.proofs.Told.{refusing}
 use Rattle.arithmetic.specs.Quotient.{valueFrom}
-use Rattle.arithmetic.proofs.Exact.{quotient-is}
+use Rattle.arithmetic.proofs.Exact.{Exact, quotient-is}
+use Rattle.analysis.specs.Worked.{factorIn}
 use Rattle.analysis.proofs.Accepting.{rooms-values, rooms-all}
 use Rattle.analysis.proofs.Column.{numbers-exact}
 use Rattle.verdicts.specs.Zeros.{noValueUnder}
@@ -92,12 +98,33 @@ module _ (h : Head) (d : List ℕ) (y : List ℤ) (w : ℕ) (M : ℤ) where
 
 -- ---- the Value
 
--- the numbers of an accepted job are f64s exactly, so a Value with its published hundredths is the definition's
+-- the ones of the restraint set of an accepted job are its t,
+ones-are : (h : Head) (d : List ℕ) (y : List ℤ) (w : ℕ) (M : ℤ) → Job h d y w M → sumℕ 64 (member w) ≡ members (objects h) w
+ones-are h d y w M j = ones-members (objects h) w (omega (arith, j .measures .design .sizes .objects-most)) (j .restraint .set-inside)
+
+-- there are some,
+pub ones-some : (h : Head) (d : List ℕ) (y : List ℤ) (w : ℕ) (M : ℤ) → Job h d y w M → 0 < sumℕ 64 (member w)
+ones-some h d y w M j = rw (ones-are h d y w M j) (job-members h d y w M j)
+
+-- and they make the factor of the definition
+pub factor-is : (h : Head) (d : List ℕ) (y : List ℤ) (w : ℕ) (M : ℤ) (i : ℕ) → Job h d y w M → factorIn w i ≡ factor h w i
+unfolding factor
+factor-is h d y w M i j = ap (λ (t : ℕ). cond (eqb (member w i) 1) (t - 1) (t + 1)) (ones-are h d y w M j)
+
+-- the factor and the denominator are f64s exactly too
+factor-exact : (h : Head) (d : List ℕ) (y : List ℤ) (w : ℕ) (M : ℤ) (i : ℕ) → Job h d y w M → Exact (pos (factor h w i)) (denominatorOf h d w)
+factor-exact h d y w M i j =
+    let x = numbers-exact h d y w M i j in
+    record { top = omega (arith, factor-most h w i, j .measures .design .sizes .objects-most); above = x .above; bottom = x .bottom }
+
+-- the numbers of an accepted job are f64s exactly, so a Value with its published hundredths and its factor is the definition's
 pub value-from-is : (h : Head) (d : List ℕ) (y : List ℤ) (w : ℕ) (M : ℤ) (i : ℕ) (k : ℤ) → Job h d y w M → k ≡ published h d y w M i →
-    valueFrom (numeratorOf h d y w M i) (denominatorOf h d w) k ≡ valueOf h d y w M i
+    valueFrom (numeratorOf h d y w M i) (denominatorOf h d w) k (factor h w i) ≡ valueOf h d y w M i
 value-from-is h d y w M i k j e = λ z. record {
   numerator = numeratorOf h d y w M i;
   denominator = denominatorOf h d w;
   hundredths = e z;
   value = quotient-is (numeratorOf h d y w M i) (denominatorOf h d w) (numbers-exact h d y w M i j) z;
+  factor = factor h w i;
+  «factor_value» = quotient-is (pos (factor h w i)) (denominatorOf h d w) (factor-exact h d y w M i j) z;
 }

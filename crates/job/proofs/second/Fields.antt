@@ -7,7 +7,7 @@ use mathlib.Core.List.{List}
 use native.Mathlib.Omega.{arith}
 use borrow.Author.Tests.{le-leb, lt-leb, eq-eqb, ne-eqb}
 use lib.IntN.{ℤ}
-use lib.ListN.{length, take, drop}
+use lib.ListN.{length, take, drop, drop-of-length-le}
 use Rattle.records.specs.declared.Head.{Head}
 use Rattle.records.specs.declared.Held.{Held}
 use Rattle.records.specs.declared.SecondRead.{SecondRead}
@@ -16,7 +16,7 @@ use Rattle.records.specs.declared.Verdict.{Verdict}
 use Rattle.records.specs.declared.Verdict.the-variants.{Accepted, Refused}
 use Rattle.meaning.specs.Refusals.{accepted, refused}
 use Rattle.meaning.specs.Calls.{given, solvedUnder, wordsUnder, valuesUnder, deviationsUnder}
-use Rattle.meaning.specs.File.{headOf, blocksOf, readingsOf, setOf, sumOf, fields, solveVerdict}
+use Rattle.meaning.specs.File.{big, headOf, blocksOf, readingsOf, setOf, sumOf, fields, solveVerdict}
 use Rattle.meaning.specs.Edition2.{
   fileLimit2,
   startAt,
@@ -47,7 +47,7 @@ part-is s end e = let c : end - 4 ≡ length (fourOf s) = omega (arith, e) in ap
 -- where there are fewer bytes nothing stands in them
 pub nothing-there : (s : List ℕ) → length s < 4 → setOf (fourOf s) ≡ 0
 unfolding fourOf big
-nothing-there s l = rw (drop-all 4 s (omega arith)) refl
+nothing-there s l = rw (drop-of-length-le s {i = 4} (omega arith)) refl
 
 -- ---- moving, by the number
 

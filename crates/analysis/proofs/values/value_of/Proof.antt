@@ -1,6 +1,6 @@
 -- `value_of`: past its own tests the job decides, and the Value is made of the object's numerator. Assumes nothing.
 use borrow.Author.Needs.{needs}
-use mathlib.Core.Path.{_≡_, refl, sym, ap, ap₂, _∙_}
+use mathlib.Core.Path.{_≡_, refl, sym, ap, _∙_}
 use mathlib.Core.List.{List, replicate}
 use Prim.Native.Nat.{ℕ, _<_}
 use native.Mathlib.Omega.{arith}
@@ -10,6 +10,7 @@ use lib.ListN.{getD}
 use mir.Syntax.{w64}
 use mir.Val.{toZ, ofZ}
 use mir.Facts.{toZ-ofZ}
+use Rattle.algebra.specs.Ranges.{sumℕ}
 use Rattle.algebra.specs.Buffers.{over}
 use Rattle.algebra.proofs.Filling.{getD-over}
 use Rattle.algebra.proofs.Signs.{read-back}
@@ -17,7 +18,7 @@ use Rattle.records.specs.declared.Head.{Head}
 use Rattle.records.specs.declared.Verdict.{Verdict}
 use Rattle.records.specs.declared.Solved.{Solved}
 use Rattle.meaning.specs.Design.{objects}
-use Rattle.meaning.specs.Analysis.{numeratorOf, denominatorOf}
+use Rattle.meaning.specs.Analysis.{member, numeratorOf, denominatorOf}
 use Rattle.meaning.specs.Publishing.{published}
 use Rattle.meaning.specs.Refusals.{_⨾_, accepted, refused, clean}
 use Rattle.meaning.specs.Calls.{slices, jobVerdict, analyseVerdict}
@@ -25,9 +26,10 @@ use Rattle.laws.proofs.Chains.{job, opened, sliced, given-yes}
 use Rattle.design.proofs.Within.{within-sizes}
 use Rattle.verdicts.proofs.Told.{refusing, accepting}
 use Rattle.arithmetic.specs.Quotient.{valueFrom}
+use Rattle.analysis.specs.Worked.{factorIn}
 use Rattle.analysis.specs.Column.{columnOf}
 use Rattle.analysis.proofs.Column.{column-published}
-use Rattle.analysis.proofs.values.Refusing.{job-verdict, value-refused, value-no-object, value-job, no-value-is, value-is-given, value-from-is}
+use Rattle.analysis.proofs.values.Refusing.{job-verdict, value-refused, value-no-object, value-job, no-value-is, value-is-given, ones-some, factor-is, value-from-is}
 use Rattle.analysis.proofs.values.value_of.Statement.{statement}
 use Rattle.analysis.proofs.values.value_of.Tie as tie
 
@@ -123,23 +125,34 @@ module _ (c : tie.After-column) where
     sliced _ _ _ (opened _ _ (passed (worked .before .before .before .before .before .before)) .0) .sizes .objects-most,
   )
 
+  -- and the job is accepted
+  good : tests worked ≡ accepted
+  good = sym (solved-verdict worked) ∙ accepting _ (sym (c .before .before .before .is-refused2 .ensures) ∙ c .before .before .if3 .left)
+
+-- its restraint set has a member
+factor-held : (c : tie.After-column) → 0 < sumℕ 64 (member (start (worked c) .args .set))
+factor-held c = ones-some _ _ _ _ _ (job _ _ _ _ _ (good c))
+
 returns-4 : tie.Need-returns-4
 returns-4 c =
-    let n = c .before .before .before in
+    let f = c .before .before .before in
+    let n = f .before in
     let a = worked n in
     let s = start a in
-    let e = sym (solved-verdict a) ∙ accepting _ (sym (n .before .before .before .is-refused2 .ensures) ∙ n .before .before .if3 .left) in
+    let e = good n in
+    let j = job (head a) (bytes a) (ys a) (s .args .set) (s .args .sum) e in
     let filled = a .analyse .last .1 .1 .1 .1 .1 .1 .0 in
     let made : c .value-from .result ≡ valueFrom (toZ w64 (ofZ w64 (getD filled (s .args .object) (pos 0)))) (a .analyse .result .denominator)
-    (toZ w64 (ofZ w64 (getD (n .column .result) (s .args .object) (pos 0)))) = search (c .value-from .ensures) in
+    (toZ w64 (ofZ w64 (getD (n .column .result) (s .args .object) (pos 0)))) (f .factor-of .result) = search (c .value-from .ensures) in
+    let factors : f .factor-of .result ≡ factorIn (s .args .set) (s .args .object) = search (f .factor-of .ensures) in
     let laid : n .column .result ≡ columnOf filled (a .analyse .result .denominator) (s .args .set) = search (n .column .ensures) in
     let hundredths : getD (n .column .result) (s .args .object) (pos 0) ≡ published (head a) (bytes a) (ys a) (s .args .set) (s .args .sum) (s .args .object) =
     ap (λ (l : List ℤ). getD l (s .args .object) (pos 0)) (laid ∙ ap (λ (d : ℕ). columnOf filled d (s .args .set)) (denominator-is a e))
-    ∙ column-published _ _ _ _ _ (job (head a) (bytes a) (ys a) (s .args .set) (s .args .sum) e) _ _ refl (filled-is a e) (s .args .object) (there a) in
+    ∙ column-published _ _ _ _ _ j _ _ refl (filled-is a e) (s .args .object) (there a) in
     value-is-given _ _ _ _ _ _ _ (value-job _ _ _ _ _ _ (passed (a .before .before .before .before .before .before)) (there a) ∙ e)
     (made ∙ (λ i. valueFrom ((read-back _ (c .before .before .value-from-arg .given) ∙ numerator-is a e) i) (denominator-is a e i)
-    ((read-back _ (c .before .value-from-arg2 .given) ∙ hundredths) i))
-    ∙ value-from-is _ _ _ _ _ _ _ (job (head a) (bytes a) (ys a) (s .args .set) (s .args .sum) e) refl)
+    ((read-back _ (c .before .value-from-arg2 .given) ∙ hundredths) i) ((factors ∙ factor-is _ _ _ _ _ (s .args .object) j) i))
+    ∙ value-from-is _ _ _ _ _ _ _ j refl)
 
 pub value-of-spec : {M : Type 1} → statement M
 value-of-spec =
@@ -160,9 +173,10 @@ value-of-spec =
     (λ c κs. search needs)
     returns-3
     (λ c κs. search needs)
-    (λ c. omega (arith, fitting c))
-    (λ c. omega (arith, fitting c))
+    (λ c κs. factor-held c)
     (λ c. omega (arith, fitting (c .before)))
     (λ c. omega (arith, fitting (c .before)))
+    (λ c. omega (arith, fitting (c .before .before)))
+    (λ c. omega (arith, fitting (c .before .before)))
     (λ c κs. search needs)
     returns-4)

@@ -7,5 +7,6 @@ pub mod Papers
 pub mod Answers
 pub mod Published
 pub mod Writing
+pub mod Days
 pub mod Demands
 pub mod Rows

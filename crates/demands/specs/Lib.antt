@@ -11,3 +11,4 @@ pub mod Demand2
 pub mod Answers
 pub mod Demand3
 pub mod Writing
+pub mod Days

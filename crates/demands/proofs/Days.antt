@@ -14,9 +14,10 @@ use Rattle.meaning.specs.Refusals.{accepted}
 use Rattle.meaning.specs.Calls.{jobVerdict}
 use Rattle.laws.proofs.Chains.{Measured, job}
 use Rattle.laws.proofs.Analysis.{squares-add}
+use Rattle.laws.proofs.Files.{file-job}
 use Rattle.laws.proofs.Days.{numerators-add, deviations-add, squares-of-sum, deviations-cancel}
-use Rattle.demands.specs.Job.{Job, verdictOf}
-use Rattle.demands.specs.Days.{added, OneDesign, together, DaysAdd, SumsOfDays, DeviationsAdd}
+use Rattle.demands.specs.Job.{Job, jobIn, verdictOf}
+use Rattle.demands.specs.Days.{added, OneDesign, together, DaysAdd, SumsOfDays, SumsOfFiles, DeviationsAdd}
 
 -- a block's added reading is the sum of its two readings
 added-reading : (y z : List ℤ) (k : ℕ) → k < length y → k < length z → reading (added y z) k ≡ reading y k +ℤ reading z k
@@ -51,15 +52,23 @@ module _ (h : Head) (d : List ℕ) (y z : List ℤ) (w : ℕ) (M N : ℤ) (e : j
   }
 
 -- ---- two days of one design and restraint set
-module _ (one two : Job) (s : OneDesign one two) where
-  -- the second day, by the first day's design and restraint set
-  second : record { head = one .head; initial = one .initial; readings = two .readings; set = one .set; sum = two .sum } ≡ two
-  second = rw (sym (s .head), sym (s .initial), sym (s .set)) refl
 
-pub sums-added : (one two : Job) → SumsOfDays one two
-sums-added one two s e f g = subst (λ (j : Job). DaysAdd one j (together one two)) (second one two s)
+-- the second day, by the first day's design and restraint set
+second : (one two : Job) → OneDesign one two →
+    record { head = one .head; initial = one .initial; readings = two .readings; set = one .set; sum = two .sum } ≡ two
+second one two s = rw (sym (s .head), sym (s .initial), sym (s .set)) refl
+
+-- in direct calls
+pub days-added : (one two : Job) → SumsOfDays one two
+days-added one two s e f g = subst (λ (j : Job). DaysAdd one j (together one two)) (second one two s)
     (days-add (one .head) (one .initial) (one .readings) (two .readings) (one .set) (one .sum) (two .sum) e
     (subst (λ (j : Job). verdictOf j ≡ accepted) (sym (second one two s)) f))
+
+-- in three files
+pub files-added : (one two both : List ℕ) → SumsOfFiles one two both
+files-added one two both s sums e f g = subst (DaysAdd (jobIn one) (jobIn two)) (sym sums)
+    (days-added (jobIn one) (jobIn two) s (file-job one e .1) (file-job two f .1)
+    (subst (λ (j : Job). verdictOf j ≡ accepted) sums (file-job both g .1)))
 
 -- ---- the deviations of an accepted job
 module _ (j : Job) (e : verdictOf j ≡ accepted) where

@@ -1,9 +1,11 @@
--- What the customer signs: the three demands, each for every byte string and for every direct call, and the request on writing jobs. Each is a record of
--- specs/, with a field for each clause of the customer's sentence; here stand the proofs, by the laws of the definitions.
+-- What the customer signs: the three demands, each for every byte string and for every direct call, and the requests on writing jobs and on sums of days.
+-- Each is a record of specs/, with a field for each clause of the customer's sentence; here stand the proofs, by the laws of the definitions.
 --     demand-1, demand-1-calls       specs/Demand1, specs/Calls      refused by number, place and order, and nothing lent is changed
 --     demand-2, demand-2-calls       specs/Demand2, specs/Answers    accepted exactly if balanced, and the paper's fractions
 --     demand-3, demand-3-calls       specs/Demand3                   the exact values are best, and the published ones near
 --     writing-jobs, writing-files    specs/Writing                   each accepted job has exactly one file (02, P1)
+--     sums-of-days, sums-of-files    specs/Days                      the figures of two days add to those of their sum (02, P12)
+--     sums-of-deviations, -in-files  specs/Days                      what the deviations of an accepted job add to (02, P12)
 -- Assumes nothing.
 use mathlib.Core.List.{List}
 use mathlib.Core.Path.{refl, ap}
@@ -23,6 +25,7 @@ use Rattle.demands.specs.Demand2.{Demand2}
 use Rattle.demands.specs.Answers.{Demand2Calls}
 use Rattle.demands.specs.Demand3.{Demand3, Demand3Calls}
 use Rattle.demands.specs.Writing.{WritingJobs, WritingFiles}
+use Rattle.demands.specs.Days.{SumsOfDays, SumsOfFiles, SumsOfDeviations, SumsOfDeviationsIn}
 use Rattle.demands.proofs.Order.{file-order, rooms-last, reading-ends, solving-ends, keeps-position, fields-led}
 use Rattle.demands.proofs.Calls.{refusing}
 use Rattle.demands.proofs.Balance.{file-exactly, file-unbalanced, file-well-formed}
@@ -30,6 +33,7 @@ use Rattle.demands.proofs.Papers.{papers-fractions}
 use Rattle.demands.proofs.Answers.{answering, three-written}
 use Rattle.demands.proofs.Published.{least-squares}
 use Rattle.demands.proofs.Writing.{jobs-written, files-written}
+use Rattle.demands.proofs.Days.{days-added, files-added, deviations-added}
 
 pub demand-1 : (s : List ℕ) → Demand1 s
 unfolding textOf
@@ -90,3 +94,15 @@ writing-jobs = jobs-written
 
 pub writing-files : (s : List ℕ) → WritingFiles s
 writing-files = files-written
+
+pub sums-of-days : (one two : Job) → SumsOfDays one two
+sums-of-days = days-added
+
+pub sums-of-files : (one two both : List ℕ) → SumsOfFiles one two both
+sums-of-files = files-added
+
+pub sums-of-deviations : (j : Job) → SumsOfDeviations j
+sums-of-deviations = deviations-added
+
+pub sums-of-deviations-in-files : (s : List ℕ) → SumsOfDeviationsIn s
+sums-of-deviations-in-files s e = deviations-added (jobIn s) (file-job s e .1)

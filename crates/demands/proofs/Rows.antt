@@ -1,4 +1,4 @@
--- Worked instances of what the demands speak of, rows of three tables with a theorem each: a definition of specs/ that is changed turns one of them over.
+-- Worked instances of what the demands speak of, rows of four tables with a theorem each: a definition of specs/ that is changed turns one of them over.
 -- The figures were worked out apart from the definitions. Assumes nothing.
 use mathlib.Core.Bool.{Bool, true, _&&_}
 use mathlib.Core.List.{List, [], _∷_, _++_, replicate}
@@ -12,7 +12,7 @@ use Rattle.algebra.specs.Ranges.{eqZ, sum, sumℕ, firstFrom}
 use Rattle.records.specs.declared.Head.{Head}
 use Rattle.records.specs.declared.Verdict.{Verdict}
 use Rattle.meaning.specs.Design.{sized, occ, plus, left, right, company, opposition, balanced, beta}
-use Rattle.meaning.specs.Analysis.{total, members, restrained, numeratorOf, denominatorOf}
+use Rattle.meaning.specs.Analysis.{total, members, restrained, numeratorOf, denominatorOf, squaredReadings, squaredTotals, qOf}
 use Rattle.meaning.specs.Publishing.{published}
 use Rattle.meaning.specs.Fractions.{Fraction, _+ᶠ_, squared, summed, valuesAlong, deviationUnder, squaresUnder}
 use Rattle.meaning.specs.Refusals.{number, place, offender, farReading}
@@ -28,6 +28,7 @@ use Rattle.demands.specs.Outcomes.{wordsAfter}
 use Rattle.demands.specs.Fractions.{distance, dividedBy, hundredths}
 use Rattle.demands.specs.Papers.{standardDeviationSquared}
 use Rattle.demands.specs.Demand3.{halfHundredth, excess}
+use Rattle.demands.specs.Days.{together, Q}
 
 -- a verdict with the number and the place that it has; two fractions that are one; one that is at most, and one that is below another; what a room holds
 pub data Row : Type 0 where
@@ -69,6 +70,13 @@ ys = pos 4 ∷ negsuc 2 ∷ pos 2 ∷ []
 -- above and two below, and the published set's excess is all of beta·v²/40,000
 abbrev halves : Job
 halves = job (head 3 1 1 2) (0 ∷ 1 ∷ 0 ∷ 255 ∷ []) (negsuc 0 ∷ pos 0 ∷ pos 0 ∷ pos 0 ∷ pos 0 ∷ pos 0 ∷ []) 5 (pos 1)
+
+-- the same design and restraint set on a later day, M 2, and both days together, M 3
+abbrev later : Job
+later = job (head 3 1 1 2) (0 ∷ 1 ∷ 0 ∷ 255 ∷ []) (pos 0 ∷ pos 1 ∷ pos 0 ∷ pos 0 ∷ pos 0 ∷ pos 0 ∷ []) 5 (pos 2)
+
+abbrev twoDays : Job
+twoDays = together halves later
 
 -- ---- the refusal table of a file: example A, and A with one fault, or two
 abbrev fileRows : List Row
@@ -150,6 +158,25 @@ publishedRows =
     ∷ same (excess (jobIn fileA)) (over 1 1600)
     ∷ []
 
+-- ---- two days and their sum, all three accepted: object 3, which is ∞ and not in the restraint set, has 5/8 and 9/8, together 14/8. Published are 62, 112 and
+-- 175 hundredths, which do not add; and Q is 2, 2 and 2, which does not either
+abbrev dayRows : List Row
+dayRows =
+    says (verdictOf halves) 0 0
+    ∷ says (verdictOf later) 0 0
+    ∷ says (verdictOf twoDays) 0 0
+    ∷ same (exact halves 3) (over 5 8)
+    ∷ same (exact later 3) (over 9 8)
+    ∷ same (exact twoDays 3) (over 14 8)
+    ∷ same (publishedOf halves 3) (over 62 100)
+    ∷ same (publishedOf later 3) (over 112 100)
+    ∷ same (publishedOf twoDays 3) (over 175 100)
+    ∷ below (publishedOf halves 3 +ᶠ publishedOf later 3) (publishedOf twoDays 3)
+    ∷ same (over (Q halves) 1) (over 2 1)
+    ∷ same (over (Q later) 1) (over 2 1)
+    ∷ same (over (Q twoDays) 1) (over 2 1)
+    ∷ []
+
 -- ---- every row holds
 
 abbrev pub refusalRows : List Row
@@ -169,6 +196,11 @@ pub published-rows : every publishedRows ≡ true
 unfolding occ plus left right company opposition beta total members restrained numeratorOf denominatorOf published big numbersAt
     summed valuesAlong deviationUnder squaresUnder sum sumℕ
 published-rows = refl
+
+pub day-rows : every dayRows ≡ true
+unfolding sized occ plus left right company opposition balanced beta offender farReading slices contents jobVerdict firstFrom
+    total members restrained numeratorOf denominatorOf published squaredReadings squaredTotals qOf sum sumℕ
+day-rows = refl
 
 -- the request's example A is written as its 56 bytes
 pub example-A-is-written : fileOf (head 5 0 2 1) (1 ∷ 4 ∷ 2 ∷ 3 ∷ []) (pos 11 ∷ negsuc 2 ∷ pos 4 ∷ pos 1 ∷ negsuc 7 ∷ []) 3 (pos 7) ≡ fileA

@@ -94,5 +94,5 @@ module _ (j : Job) where
 abbrev pub SumsOfDeviations : Job → Type 0
 SumsOfDeviations j = verdictOf j ≡ accepted → DeviationsAdd j
 
-abbrev pub SumsOfFileDeviations : List ℕ → Type 0
-SumsOfFileDeviations s = readVerdict s ≡ accepted → DeviationsAdd (jobIn s)
+abbrev pub SumsOfDeviationsIn : List ℕ → Type 0
+SumsOfDeviationsIn s = readVerdict s ≡ accepted → DeviationsAdd (jobIn s)

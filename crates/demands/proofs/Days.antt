@@ -8,7 +8,7 @@ use lib.IntN.{ℤ, pos, _+ℤ_, _*ℤ_}
 use lib.ListN.{length}
 use Rattle.algebra.specs.Ranges.{sum}
 use Rattle.records.specs.declared.Head.{Head}
-use Rattle.meaning.specs.Design.{objects, blocks}
+use Rattle.meaning.specs.Design.{blocks}
 use Rattle.meaning.specs.Analysis.{sq, reading, sign, vbeta, numeratorOf, deviationOf, qOf}
 use Rattle.meaning.specs.Refusals.{accepted}
 use Rattle.meaning.specs.Calls.{jobVerdict}
@@ -47,7 +47,7 @@ module _ (h : Head) (d : List ℕ) (y z : List ℤ) (w : ℕ) (M N : ℤ) (e : j
     deviation-bottoms = (refl, refl);
     squares-of-the-sum =
         let sums : sum (blocks h) (λ k. sq (deviationOf h d y k +ℤ deviationOf h d z k)) ≡ pos (vbeta h d * qOf h d (added y z)) =
-            squares-of-sum h d (added y z) y z adds (job h d y w M e .measures .design) (job h d y w M e .measures .even) in
+        squares-of-sum h d (added y z) y z adds (job h d y w M e .measures .design) (job h d y w M e .measures .even) in
         search sums;
   }
 
@@ -82,10 +82,10 @@ module _ (j : Job) (e : verdictOf j ≡ accepted) where
   deviations-added = record {
     squares-add =
         let squares : sum (blocks h) (λ k. sq (deviationOf h d y k)) ≡ pos (vbeta h d * qOf h d y) =
-            squares-add h d (measures .design) (measures .even) y in
+        squares-add h d (measures .design) (measures .even) y in
         search squares;
     left-minus-right = λ i l.
         let sums : sum (blocks h) (λ k. sign h d k i *ℤ deviationOf h d y k) ≡ pos 0 =
-            deviations-cancel h d (measures .design) (measures .even) y i l in
+        deviations-cancel h d (measures .design) (measures .even) y i l in
         search sums;
   }

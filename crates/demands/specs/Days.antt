@@ -6,9 +6,10 @@
 use mathlib.Core.List.{List, [], _∷_}
 use mathlib.Core.Path.{_≡_}
 use Prim.Native.Nat.{ℕ, _*_, _<_}
-use lib.IntN.{ℤ, pos, _+ℤ_, _*ℤ_}
+use lib.IntN.{ℤ, pos, _+ℤ_, _-ℤ_, _*ℤ_}
 use Rattle.algebra.specs.Ranges.{sum}
-use Rattle.meaning.specs.Analysis.{sq, sign, vbeta, numeratorOf, denominatorOf, deviationOf, qOf}
+use Rattle.meaning.specs.Design.{occ, left, right}
+use Rattle.meaning.specs.Analysis.{sq, vbeta, numeratorOf, denominatorOf, deviationOf, qOf}
 use Rattle.meaning.specs.Refusals.{accepted}
 use Rattle.meaning.specs.File.{readVerdict}
 use Rattle.demands.specs.Job.{Job, jobIn, v, b, verdictOf}
@@ -87,8 +88,8 @@ module _ (j : Job) where
   pub record DeviationsAdd : Type 0 where
     -- The squared deviation numerators add to v·beta·Q,
     pub squares-add : sum (b j) (λ k. sq (deviationTop j k)) ≡ pos (deviationBottom j * Q j)
-    -- and the deviations, taken left minus right, total 0 for every object: those of the blocks with i on the left less those with it on the right
-    pub left-minus-right : (i : ℕ) → i < v j → sum (b j) (λ k. sign h d k i *ℤ deviationTop j k) ≡ pos 0
+    -- and the deviations, taken left minus right, total 0 for every object: those of the blocks with i on the left, less those of the blocks with i on the right
+    pub left-minus-right : (i : ℕ) → i < v j → sum (b j) (λ k. (pos (occ i (left h d k)) -ℤ pos (occ i (right h d k))) *ℤ deviationTop j k) ≡ pos 0
 
 -- for an accepted job: in a direct call, and in a file
 abbrev pub SumsOfDeviations : Job → Type 0

@@ -34,13 +34,16 @@ module _ (h : Head) (d : List ℕ) (y z : List ℤ) (w : ℕ) (M N : ℤ) (e : j
 
   -- both days have every block
   adds : (k : ℕ) → k < blocks h → reading (added y z) k ≡ reading y k +ℤ reading z k
-  adds k l = added-reading y z k (omega (arith, job h d y w M e .measures .readings .readings-long)) (omega (arith, job h d z w N f .measures .readings .readings-long))
+  adds k l =
+      let first : k < length y = omega (arith, job h d y w M e .measures .readings .readings-long) in
+      let second : k < length z = omega (arith, job h d z w N f .measures .readings .readings-long) in
+      added-reading y z k first second
 
   days-add : DaysAdd (day y M) (day z N) (together (day y M) (day z N))
   days-add = record {
     values-add = λ i l.
-        let sums : numeratorOf h d (added y z) w (M +ℤ N) i ≡ numeratorOf h d y w M i +ℤ numeratorOf h d z w N i = numerators-add h d (added y z) y z adds w M N i in
-        search sums;
+        let sums : numeratorOf h d (added y z) w (M +ℤ N) i ≡ numeratorOf h d y w M i +ℤ numeratorOf h d z w N i =
+        numerators-add h d (added y z) y z adds w M N i in search sums;
     deviations-add = λ k l.
         let sums : deviationOf h d (added y z) k ≡ deviationOf h d y k +ℤ deviationOf h d z k = deviations-add h d (added y z) y z adds k l in search sums;
     value-bottoms = (refl, refl);

@@ -87,8 +87,8 @@ module _ (j : Job) where
 
   pub record DeviationsAdd : Type 0 where
     -- The squared deviation numerators add to v·beta·Q,
-    pub squares-add : sum (b j) (λ k. sq (deviationTop j k)) ≡ pos (deviationBottom j * Q j)
-    -- and the deviations, taken left minus right, total 0 for every object: those of the blocks with i on the left, less those of the blocks with i on the right
+    pub squares-add : sum (b j) (λ k. sq (deviationTop j k)) ≡ pos (vbeta h d * Q j)
+    -- and the deviations, taken left minus right, total 0 for every object: those of the blocks with it on the left, less those with it on the right
     pub left-minus-right : (i : ℕ) → i < v j → sum (b j) (λ k. (pos (occ i (left h d k)) -ℤ pos (occ i (right h d k))) *ℤ deviationTop j k) ≡ pos 0
 
 -- for an accepted job: in a direct call, and in a file

@@ -1,5 +1,5 @@
 -- What the customer signs: the three demands, each for every byte string and for every direct call, and the requests on writing jobs, on fields, on the
--- second edition and on uncertainty. Each is a record of specs/, with a field for each clause of the customer's sentence; here stand the proofs, by the
+-- second edition, on uncertainty and on sums of days. Each is a record of specs/, with a field for each clause of the customer's sentence; here stand the proofs, by the
 -- laws of the definitions.
 --     demand-1, demand-1-calls       specs/Demand1, specs/Calls      refused by number, place and order, and nothing lent is changed
 --     demand-2, demand-2-calls       specs/Demand2, specs/Answers    accepted exactly if balanced, and the paper's fractions
@@ -8,6 +8,8 @@
 --     writing-jobs, writing-files    specs/Writing                   each accepted job has exactly one file (02, P1)
 --     designs-over-fields, the-fields    specs/Fields                what the addition of a field is, and what is refused (02, P4)
 --     files-of-the-first-edition, files-of-the-second-edition    specs/Edition2    moved from one edition to the other (02, P7)
+--     sums-of-days, sums-of-files    specs/Days                      the figures of two days add to those of their sum (02, P12)
+--     sums-of-deviations, -in-files  specs/Days                      what the deviations of an accepted job add to (02, P12)
 -- Assumes nothing.
 use mathlib.Core.List.{List}
 use mathlib.Core.Path.{refl, ap}
@@ -31,6 +33,7 @@ use Rattle.demands.specs.Fields.{OverFields, TheFields}
 use Rattle.demands.specs.Uncertainty.{UncertaintyPerObject, UncertaintyPerObjectCalls}
 use Rattle.demands.specs.Writing.{WritingJobs, WritingFiles}
 use Rattle.demands.specs.Edition2.{FirstEdition, SecondEdition}
+use Rattle.demands.specs.Days.{SumsOfDays, SumsOfFiles, SumsOfDeviations, SumsOfDeviationsIn}
 use Rattle.demands.proofs.Order.{file-order, rooms-last, reading-ends, solving-ends, keeps-position, fields-led}
 use Rattle.demands.proofs.Calls.{refusing}
 use Rattle.demands.proofs.Balance.{file-exactly, file-unbalanced, file-well-formed}
@@ -41,6 +44,7 @@ use Rattle.demands.proofs.Fields.{over-fields, listed-fields}
 use Rattle.demands.proofs.Uncertainty.{uncertainty}
 use Rattle.demands.proofs.Writing.{jobs-written, files-written}
 use Rattle.demands.proofs.Edition2.{first-edition, second-edition}
+use Rattle.demands.proofs.Days.{days-added, files-added, deviations-added}
 
 pub demand-1 : (s : List ℕ) → Demand1 s
 unfolding textOf
@@ -119,3 +123,15 @@ files-of-the-first-edition = first-edition
 
 pub files-of-the-second-edition : (s : List ℕ) → SecondEdition s
 files-of-the-second-edition = second-edition
+
+pub sums-of-days : (one two : Job) → SumsOfDays one two
+sums-of-days = days-added
+
+pub sums-of-files : (one two both : List ℕ) → SumsOfFiles one two both
+sums-of-files = files-added
+
+pub sums-of-deviations : (j : Job) → SumsOfDeviations j
+sums-of-deviations = deviations-added
+
+pub sums-of-deviations-in-files : (s : List ℕ) → SumsOfDeviationsIn s
+sums-of-deviations-in-files s e = deviations-added (jobIn s) (file-job s e .1)

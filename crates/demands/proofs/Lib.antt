@@ -12,5 +12,6 @@ pub mod Writing
 pub mod Fields
 pub mod FourFields
 pub mod Edition2
+pub mod Days
 pub mod Demands
 pub mod Rows

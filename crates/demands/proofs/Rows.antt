@@ -12,7 +12,7 @@ use Rattle.algebra.specs.Ranges.{eqZ, sum, sumℕ, firstFrom}
 use Rattle.records.specs.declared.Head.{Head}
 use Rattle.records.specs.declared.Verdict.{Verdict}
 use Rattle.meaning.specs.Design.{fieldPrime, sized, occ, digitSum, plus, left, right, company, opposition, balanced, beta}
-use Rattle.meaning.specs.Analysis.{total, members, restrained, numeratorOf, denominatorOf, coefficient, factor}
+use Rattle.meaning.specs.Analysis.{total, members, restrained, numeratorOf, denominatorOf, squaredReadings, squaredTotals, qOf, coefficient, factor}
 use Rattle.meaning.specs.Publishing.{rank, shortfall, published}
 use Rattle.meaning.specs.Fractions.{Fraction, _+ᶠ_, squared, summed, valuesAlong, deviationUnder, squaresUnder}
 use Rattle.meaning.specs.Refusals.{number, place, offender, farReading}
@@ -29,6 +29,7 @@ use Rattle.demands.specs.Fractions.{_*ᶠ_, distance, dividedBy, hundred
 use Rattle.demands.specs.Papers.{standardDeviationSquared}
 use Rattle.demands.specs.Demand3.{hundredth, halfHundredth, excess}
 use Rattle.demands.specs.Uncertainty.{coefficientOf, factorOf}
+use Rattle.demands.specs.Days.{together, Q}
 
 -- a verdict with the number and the place that it has; two fractions that are one; one that is at most, and one that is below another; what a room holds
 pub data Row : Type 0 where
@@ -70,6 +71,13 @@ ys = pos 4 ∷ negsuc 2 ∷ pos 2 ∷ []
 -- above and two below, and the published set's excess is a quarter of beta·v²/10,000
 abbrev halves : Job
 halves = job (head 3 1 1 2) (0 ∷ 1 ∷ 0 ∷ 255 ∷ []) (negsuc 0 ∷ pos 0 ∷ pos 0 ∷ pos 0 ∷ pos 0 ∷ pos 0 ∷ []) 5 (pos 1)
+
+-- the same design and restraint set on a later day, M 2, and both days together, M 3
+abbrev later : Job
+later = job (head 3 1 1 2) (0 ∷ 1 ∷ 0 ∷ 255 ∷ []) (pos 0 ∷ pos 1 ∷ pos 0 ∷ pos 0 ∷ pos 0 ∷ pos 0 ∷ []) 5 (pos 2)
+
+abbrev twoDays : Job
+twoDays = together halves later
 
 -- ---- the refusal table of a file: example A, and A with one fault, or two
 abbrev fileRows : List Row
@@ -184,6 +192,25 @@ uncertaintyRows =
     ∷ same (over 1 2 *ᶠ over 3 4) (over 3 8)
     ∷ []
 
+-- ---- two days and their sum, all three accepted: object 3, which is ∞ and not in the restraint set, has 5/8 and 9/8, together 14/8. Published are 62, 112 and
+-- 175 hundredths, which do not add; and Q is 2, 2 and 2, which does not either
+abbrev dayRows : List Row
+dayRows =
+    says (verdictOf halves) 0 0
+    ∷ says (verdictOf later) 0 0
+    ∷ says (verdictOf twoDays) 0 0
+    ∷ same (exact halves 3) (over 5 8)
+    ∷ same (exact later 3) (over 9 8)
+    ∷ same (exact twoDays 3) (over 14 8)
+    ∷ same (publishedOf halves 3) (over 62 100)
+    ∷ same (publishedOf later 3) (over 112 100)
+    ∷ same (publishedOf twoDays 3) (over 175 100)
+    ∷ below (publishedOf halves 3 +ᶠ publishedOf later 3) (publishedOf twoDays 3)
+    ∷ same (over (Q halves) 1) (over 2 1)
+    ∷ same (over (Q later) 1) (over 2 1)
+    ∷ same (over (Q twoDays) 1) (over 2 1)
+    ∷ []
+
 -- ---- every row holds
 
 abbrev pub refusalRows : List Row
@@ -205,8 +232,13 @@ unfolding occ fieldPrime digitSum plus left right company opposition beta total 
 published-rows = refl
 
 pub uncertainty-rows : every uncertaintyRows ≡ true
-unfolding occ plus left right company opposition beta members restrained denominatorOf coefficient factor big numbersAt summed sum sumℕ
+unfolding occ fieldPrime digitSum plus left right company opposition beta members restrained denominatorOf coefficient factor big numbersAt summed sum sumℕ
 uncertainty-rows = refl
+
+pub day-rows : every dayRows ≡ true
+unfolding fieldPrime sized occ digitSum plus left right company opposition balanced beta offender farReading slices contents jobVerdict firstFrom
+    total members restrained numeratorOf denominatorOf rank shortfall published squaredReadings squaredTotals qOf sum sumℕ
+day-rows = refl
 
 -- the request's example A is written as its 56 bytes
 pub example-A-is-written : fileOf (head 5 0 2 1) (1 ∷ 4 ∷ 2 ∷ 3 ∷ []) (pos 11 ∷ negsuc 2 ∷ pos 4 ∷ pos 1 ∷ negsuc 7 ∷ []) 3 (pos 7) ≡ fileA

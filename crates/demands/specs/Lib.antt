@@ -14,3 +14,4 @@ pub mod Uncertainty
 pub mod Writing
 pub mod Fields
 pub mod Edition2
+pub mod Days

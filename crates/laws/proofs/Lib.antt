@@ -9,6 +9,7 @@ pub mod LeastSquares
 pub mod Matrix
 pub mod Solution
 pub mod Analysis
+pub mod Days
 pub mod Rounding
 pub mod Column
 pub mod Sizes

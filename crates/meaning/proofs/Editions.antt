@@ -115,7 +115,8 @@ readingRows =
     ∷ refuses (readVerdict2 (set secondA 14 5 ++ (127 ∷ 0 ∷ 0 ∷ []))) 2 60
     ∷ refuses (readVerdict2 (set secondA 14 5 ++ other)) 5 14
     ∷ refuses (readVerdict2 (set secondA 28 0)) 7 18
-    ∷ refuses (readVerdict2 (set secondA 56 0)) 8 56
+    ∷ refuses (readVerdict2 (set secondA 28 1)) 11 18
+    ∷ refuses (readVerdict2 (set secondA 56 127)) 8 56
     ∷ refuses (readVerdict2 (16 ∷ 0 ∷ 1 ∷ 2 ∷ set (set fileA 12 3) 13 2)) 0 0
     ∷ refuses (readVerdict2 (16 ∷ 0 ∷ 1 ∷ 2 ∷ set fileA 13 0)) 6 0
     ∷ refuses (readVerdict2 (replicate 16385 0)) 4 0
@@ -126,11 +127,11 @@ readingRows =
     (5 ∷ 0 ∷ 2 ∷ 1 ∷ 14 ∷ 40 ∷ 3 ∷ 63 ∷ [])
     ∷ holding (readAnswer2 secondA .«names_at» ∷ readAnswer2 (secondA ++ other) .«names_at» ∷ []) (0 ∷ 0 ∷ [])
     ∷ holding
-    (let r = readAnswer2 (set secondA 56 0 ++ namesOfA) in
+    (let r = readAnswer2 (set secondA 56 127 ++ namesOfA) in
     r .job .head .n ∷ r .job .head .p ∷ r .job .head .m ∷ r .job .«blocks_at» ∷ r .job .«readings_at» ∷ r .job .set ∷ r .«names_at» ∷ [])
     (replicate 7 0)
-    ∷ counting 2 (λ i. getD (readAnswer2 secondA .job .sum ∷ readAnswer2 (set secondA 56 0) .job .sum ∷ []) i (pos 5)) (pos 7 ∷ pos 0 ∷ [])
-    ∷ refuses (solveVerdict2 (set secondA 56 0) 0 0 0) 8 56
+    ∷ counting 2 (λ i. getD (readAnswer2 secondA .job .sum ∷ readAnswer2 (set secondA 56 127) .job .sum ∷ []) i (pos 5)) (pos 7 ∷ pos 0 ∷ [])
+    ∷ refuses (solveVerdict2 (set secondA 56 127) 0 0 0) 8 56
     ∷ refuses (solveVerdict2 secondA 9 5 5) 10 0
     ∷ refuses (solveVerdict2 secondA 10 4 5) 10 0
     ∷ refuses (solveVerdict2 secondA 10 5 4) 10 0
@@ -174,7 +175,7 @@ movingRows =
     ∷ holding (toSecondAfter fileA (replicate 62 77)) (secondA ++ (77 ∷ 77 ∷ []))
     ∷ holding (toSecondAfter fileA (replicate 59 77)) (replicate 59 77)
     ∷ refuses (toFirstVerdict (set secondA 14 5 ++ other) 0) 5 14
-    ∷ refuses (toFirstVerdict (set secondA 56 0 ++ other) 0) 8 56
+    ∷ refuses (toFirstVerdict (set secondA 56 127 ++ other) 0) 8 56
     ∷ refuses (toFirstVerdict (secondA ++ other) 0) 13 60
     ∷ refuses (toFirstVerdict (secondA ++ namesOfA ++ other) 99) 13 60
     ∷ refuses (toFirstVerdict secondA 55) 10 0

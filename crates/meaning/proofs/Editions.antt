@@ -26,6 +26,7 @@ use Rattle.meaning.specs.Analysis.{
   spreadHundredths,
   spreadHundredthsOf,
 }
+use Rattle.meaning.specs.Wide.{wide}
 use Rattle.meaning.specs.Publishing.{rank, shortfall, published}
 use Rattle.meaning.specs.Refusals.{offender, farReading}
 use Rattle.meaning.specs.Calls.{wordAt, word, slices, contents, rooms}
@@ -194,5 +195,5 @@ unfoldable pub table : List Row
 table = readingRows ++ movingRows
 
 pub editions : every table ≡ true
-unfolding table sized occ fieldPrime digitSum plus left right company opposition balanced beta total members restrained numeratorOf denominatorOf along difference deviationOf squaredReadings squaredTotals qOf root spreadHundredths spreadHundredthsOf rank shortfall published offender farReading word wordAt slices contents rooms big numbersAt fieldVerdict fields readVerdict solveVerdict bytesOf readingsBody fileOf ascii digits each textOf over sum sumℕ firstFrom round edition fourOf optionalVerdict optionals optionalFields fields2 readVerdict2 solveVerdict2 textOf2 fileOf2 writeVerdict2 toSecondVerdict toFirstVerdict
+unfolding table sized occ fieldPrime digitSum plus left right company opposition balanced beta total members restrained numeratorOf denominatorOf along difference deviationOf squaredReadings squaredTotals qOf root spreadHundredths spreadHundredthsOf wide rank shortfall published offender farReading word wordAt slices contents rooms big numbersAt fieldVerdict fields readVerdict solveVerdict bytesOf readingsBody fileOf ascii digits each textOf over sum sumℕ firstFrom round edition fourOf optionalVerdict optionals optionalFields fields2 readVerdict2 solveVerdict2 textOf2 fileOf2 writeVerdict2 toSecondVerdict toFirstVerdict
 editions = refl

@@ -14,7 +14,8 @@ module _ (c : tie.After-solve-second) where
   abbrev start : tie.Start
   start = c .before .before .before .before .before .before .before
 
-  fits : (c .solve-second .result .parameters .v ≤ length (c .solve-second .last .1 .1 .0)) × (c .solve-second .result .parameters .b ≤ length (c .solve-second .last .1 .1 .1 .0))
+  fits : (c .solve-second .result .parameters .v ≤ length (c .solve-second .last .1 .1 .0))
+      × (c .solve-second .result .parameters .b ≤ length (c .solve-second .last .1 .1 .1 .0))
   fits = solved-fits2 (start .args .bytes .now) (start .args .words .now) (start .args .values .now) (start .args .deviations .now) (start .pre .0)
       (start .pre .1) (start .pre .2)
       (c .solve-second .ensures .0) (c .solve-second .ensures .1 .1 .0) (c .solve-second .ensures .1 .1 .1)

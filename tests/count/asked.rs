@@ -57,7 +57,8 @@ impl Asked {
     pub fn new(about: String, draft: Draft, bytes: Vec<u8>) -> Asked {
         let head = Head { n: draft.n.into(), flag: draft.flag.into(), p: draft.p.into(), m: draft.m.into() };
         let Draft { objects, readings, restraint: set, sum, .. } = draft;
-        Asked { about, head, objects, readings, set, sum, bytes, number: 0, place: 0, tag: 0, length: 0, second: vec![], names: vec![], worked_out: WorkedOut::default() }
+        let (number, place, tag, length, second, names) = (0, 0, 0, 0, vec![], vec![]);
+        Asked { about, head, objects, readings, set, sum, number, bytes, place, tag, length, second, names, worked_out: WorkedOut::default() }
     }
 
     /// The developed blocks, of clean objects.

@@ -99,7 +99,8 @@ module _ (s : List ℕ) where
       optionalVerdict s names least at ≡ accepted
   unfolding optionals
   first-optional zero names least at l m e = absurd (omega arith)
-  first-optional (suc k) names least at l m e = opened _ (optionals k s names (getD s at 0 + 1) (at + 3 + big s (at + 1) 2)) (rw (lt-leb (length s) at l) at e) .0
+  first-optional (suc k) names least at l m e =
+      opened _ (optionals k s names (getD s at 0 + 1) (at + 3 + big s (at + 1) 2)) (rw (lt-leb (length s) at l) at e) .0
 
   module _ (e : readVerdict2 s ≡ accepted) (tag : getD s (optionalAt s) 0 ≡ 128) where
     there : optionalAt s < length s

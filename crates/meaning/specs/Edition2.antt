@@ -1,5 +1,6 @@
 -- The second edition of the job file (02, P7): an edition field, the four fields, then optional fields; and what each call on it answers. The four fields
--- are a file of the first edition that starts at a place: they are read as one, and what is refused in them is moved to its place in the whole. Assumes nothing.
+-- are a file of the first edition that starts at a place: they are read as one, and what is refused in them is moved to its place in the whole. Assumes
+-- nothing.
 use Prim.Native.Nat.{ℕ, zero, suc, _+_, _*_}
 use mathlib.Core.Bool.{cond, not, _||_}
 use mathlib.Core.List.{List, [], _∷_, _++_}

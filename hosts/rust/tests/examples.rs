@@ -539,3 +539,32 @@ fn rooms_and_slots_of_files_that_are_written() {
     assert_eq!((unbalanced(&mut out, &mut []), out), (6, [BYTE; 1000]));
     assert_eq!(unbalanced(&mut [], &mut []), 6);
 }
+
+// ---- files of the second edition
+
+#[test]
+fn files_of_the_second_edition() {
+    let a = example("A.job");
+    let second = to_second(&a).unwrap();
+    assert_eq!((second.len(), &second[..4], &second[4..]), (60, &[0x10, 0, 1, 2][..], &a[..]));
+    assert_eq!(to_first(&second), Ok(a.clone()));
+    assert_eq!(write_second(A, &BLOCKS, SET, SUM, &READINGS, &[]), Ok(second.clone()));
+    assert_eq!(listing_second(&second), listing(&a));
+    assert_eq!(solve_second(&second), solve(&a));
+    assert_eq!((read(&second), read_second(&a)), (refused(Reason::WrongTag, 0), refused(Reason::WrongTag, 0)));
+    assert_eq!(read_second(&[0; 16_385]), refused(Reason::BrokenSize, 0));
+    assert_eq!(read_second(&[0x10, 0, 1, 1]), refused(Reason::WrongEdition, 3));
+    assert_eq!(read_second(&[&second[..], &[0x7F, 0, 0]].concat()), refused(Reason::WrongTag, 60));
+}
+
+#[test]
+fn names_of_the_second_edition() {
+    let names = [*b"a       ", *b"b  b    ", *b"\xFF       ", *b"        ", *b"12345678"].map(Name);
+    let file = write_second(A, &BLOCKS, SET, SUM, &READINGS, &names).unwrap();
+    let found = read_second(&file).unwrap();
+    assert_eq!((found.names.clone(), found.job.head, found.job.blocks_at, found.job.readings_at), (names.to_vec(), A, 14, 40));
+    assert_eq!(found.names.iter().map(Name::to_string).collect::<Vec<_>>(), ["a", "b  b", "\u{FFFD}", "", "12345678"]);
+    assert_eq!(to_first(&file), refused(Reason::OptionalFields, 60));
+    assert_eq!(listing_second(&file), listing(&example("A.job")));
+    assert_eq!(write_second(A, &BLOCKS, SET, SUM, &READINGS, &names[1..]), refused(Reason::WrongLength, 0));
+}

@@ -86,7 +86,11 @@ module _ (s : List ℕ) (names least at : ℕ) where
     module _ (tagged : least ≤ getD s at 0) where
       pub wrong-names : not (not (eqb (getD s at 0) namesTag) || eqb (big s (at + 1) 2) names) ≡ true → optionalVerdict s names least at ≡ refused 3 at
       unfolding optionalVerdict
-      wrong-names h = rw (le-leb (at + 3) (length s) start, le-leb least (getD s at 0) tagged, not-true (not (eqb (getD s at 0) namesTag) || eqb (big s (at + 1) 2) names) h) refl
+      wrong-names h = rw (
+        le-leb (at + 3) (length s) start,
+        le-leb least (getD s at 0) tagged,
+        not-true (not (eqb (getD s at 0) namesTag) || eqb (big s (at + 1) 2) names) h,
+      ) refl
 
       module _ (named : not (not (eqb (getD s at 0) namesTag) || eqb (big s (at + 1) 2) names) ≡ false) where
         pub no-body : length s < at + 3 + big s (at + 1) 2 → optionalVerdict s names least at ≡ refused 1 at

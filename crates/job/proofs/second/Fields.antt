@@ -99,7 +99,8 @@ module _ (s : List ℕ) where
   -- ---- what reading hands back
 
   -- refused: zeros
-  pub read-none : (v : Verdict) → v ≡ readVerdict2 s → given v false true ≡ true → _≡_ {A = SecondRead} (record { job = noJob v; «names_at» = 0 }) (readAnswer2 s)
+  pub read-none : (v : Verdict) → v ≡ readVerdict2 s → given v false true ≡ true →
+      _≡_ {A = SecondRead} (record { job = noJob v; «names_at» = 0 }) (readAnswer2 s)
   read-none v e r = let f = sym e ∙ refusing v r in rw f (ap (λ (w : Verdict). record { job = noJob w; «names_at» = 0 }) (refusing v r))
 
   -- accepted: what the four fields hold, at its places

@@ -32,7 +32,9 @@ module _ (h : Head) (names : List ℕ) where
 
   -- names that fit are few
   pub names-most : namesFit h names ≡ accepted → objects h ≤ 50 → length names ≤ 400
-  names-most e l = by (eqb (length names) 0) (eqb (length names) (namesLength h)) refl refl (held (eqb (length names) 0 || eqb (length names) (namesLength h)) 3 0 e)
+  names-most e l =
+      by (eqb (length names) 0) (eqb (length names) (namesLength h)) refl refl
+      (held (eqb (length names) 0 || eqb (length names) (namesLength h)) 3 0 e)
     where
       by : (a b : Bool) → eqb (length names) 0 ≡ a → eqb (length names) (namesLength h) ≡ b → a || b ≡ true → length names ≤ 400
       by true b f g t = omega (arith, eqb-true (length names) 0 f)

@@ -50,7 +50,9 @@ module _ (s : tie.Start) where
   tested : toFirstVerdict (now (s .args .bytes)) 1 ≡ tests ⨾ refused 10 0
   unfolding toFirstVerdict
   tested = one-byte tests (length (fourOf (now (s .args .bytes)))) (λ e.
-      omega (arith, filed (fourOf (now (s .args .bytes))) (file-job (fourOf (now (s .args .bytes))) (file-job2 (now (s .args .bytes)) (opened (readVerdict2 (now (s .args .bytes))) optional e .0) .1) .0) .ends))
+      let bytes = now (s .args .bytes) in
+      let reads = file-job2 bytes (opened (readVerdict2 bytes) optional e .0) .1 in
+      omega (arith, filed (fourOf bytes) (file-job (fourOf bytes) reads .0) .ends))
 
   -- with one the room is as the direct call leaves it
   one : 1 ≤ length (now (s .args .answer)) → left ≡ given call left (now (s .args .out))

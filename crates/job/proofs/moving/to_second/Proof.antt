@@ -15,7 +15,8 @@ use Rattle.job.proofs.moving.to_second.Tie as tie
 returns : tie.Need-returns
 returns c =
     let a = c .before .before .before .before .before .args in
-    unput (toSecondVerdict (now (a .bytes)) (length (now (a .out)))) (secondOf (now (a .bytes))) (now (a .out)) _ (c .before .before .to-second-refusal .ensures)
+    unput (toSecondVerdict (now (a .bytes)) (length (now (a .out)))) (secondOf (now (a .bytes))) (now (a .out)) _
+    (c .before .before .to-second-refusal .ensures)
     (sym (c .before .is-refused .ensures) ∙ c .if1 .taken)
 
 returns-2 : tie.Need-returns-2

@@ -1,6 +1,6 @@
 -- What the customer signs: the three demands, each for every byte string and for every direct call, and the requests on writing jobs, on fields, on the
--- second edition, on uncertainty and on sums of days. Each is a record of specs/, with a field for each clause of the customer's sentence; here stand the proofs, by the
--- laws of the definitions.
+-- second edition, on uncertainty and on sums of days. Each is a record of specs/, with a field for each clause of the customer's sentence; here stand the
+-- proofs, by the laws of the definitions.
 --     demand-1, demand-1-calls       specs/Demand1, specs/Calls      refused by number, place and order, and nothing lent is changed
 --     demand-2, demand-2-calls       specs/Demand2, specs/Answers    accepted exactly if balanced, and the paper's fractions
 --     demand-3, demand-3-calls       specs/Demand3                   the exact values are best, and the published ones near

@@ -2,12 +2,13 @@
 use mathlib.Core.Path.{_≡_, refl, sym, ap, _∙_}
 use mathlib.Core.Bool.{true, false}
 use mathlib.Core.List.{List}
-use Prim.Native.Nat.{ℕ, _≤_, _<_}
+use Prim.Native.Nat.{ℕ, _^_, _≤_, _<_}
 use native.Mathlib.Omega.{arith}
 use borrow.Author.Tests.{lt-ltb, le-ltb}
 use lib.Dec.{ltb}
 use lib.Pow.{pow-mono}
 use lib.IntN.{ℤ, pos}
+use Rattle.algebra.specs.Ranges.{sumℕ}
 use Rattle.records.specs.declared.Head.{Head}
 use Rattle.records.specs.declared.Verdict.{Verdict}
 use Rattle.records.specs.declared.Verdict.the-variants.{Accepted, Refused}
@@ -16,7 +17,7 @@ use Rattle.records.specs.declared.JobSpread.{JobSpread}
 use Rattle.records.specs.declared.SquareSum.{SquareSum}
 use Rattle.records.specs.declared.BlockDeviation.{BlockDeviation}
 use Rattle.meaning.specs.Design.{objects, blocks}
-use Rattle.meaning.specs.Analysis.{deviationOf, vbeta, qOf}
+use Rattle.meaning.specs.Analysis.{member, deviationOf, vbeta, qOf}
 use Rattle.meaning.specs.Refusals.{_⨾_, accepted, refused, number, place, clean, inBalance, restraint, inReach, room}
 use Rattle.meaning.specs.Calls.{
   given,
@@ -39,16 +40,22 @@ use Rattle.laws.specs.Fits.{Fits}
 use Rattle.laws.proofs.Chains.{accepts, goes-on, refused-stays, accepted-last, test-yes, test-no, sliced, measured}
 use Rattle.verdicts.proofs.Told.{refusing}
 use Rattle.judging.proofs.Restrained.{restrained-yes}
+use Rattle.words.proofs.Members.{ones-members}
 use Rattle.analysis.proofs.Accepting.{rooms-deviations, rooms-all}
 use Rattle.verdicts.specs.Zeros.{noDeviation}
 
+-- the word of objects 0 and 1 has two ones
+two-ones : sumℕ 64 (member 3) ≡ 2
+unfolding sumℕ
+two-ones = refl
+
 -- objects 0 and 1 with the sum 0 are a restraint for every design, which has three objects or more
 pub always-restrained : (h : Head) → Fits h → restraint h 3 (pos 0) ≡ accepted
-always-restrained h f = restrained-yes h 3 (pos 0) (record {
-  set-some = omega arith;
-  set-inside = omega (arith, pow-mono {i = 2} {j = objects h} (omega (arith, f .n-least)));
-  sum-most = omega arith;
-})
+always-restrained h f = restrained-yes h 3 (pos 0) (record { set-some = omega arith; set-inside = inside; sum-most = omega arith })
+    (omega (arith, two-ones, ones-members (objects h) 3 (omega (arith, f .objects-most)) inside))
+  where
+    inside : 3 < 2 ^ objects h
+    inside = omega (arith, pow-mono {i = 2} {j = objects h} (omega (arith, f .n-least)))
 
 module _ (h : Head) (d : List ℕ) (y : List ℤ) where
   -- under it a job is refused as its readings are

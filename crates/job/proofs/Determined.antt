@@ -22,6 +22,9 @@ use Rattle.job.proofs.second.read_second.Reads as read-second-reads
 use Rattle.job.proofs.second.solve_second as solve-second
 use Rattle.job.proofs.second.solve_second.Kinds as solve-second-kinds
 use Rattle.job.proofs.second.solve_second.Reads as solve-second-reads
+use Rattle.job.proofs.second.set_second as set-second
+use Rattle.job.proofs.second.set_second.Kinds as set-second-kinds
+use Rattle.job.proofs.second.set_second.Reads as set-second-reads
 use Rattle.job.proofs.solving.solve as solve
 use Rattle.job.proofs.solving.solve.Kinds as solve-kinds
 use Rattle.job.proofs.solving.solve.Reads as solve-reads
@@ -65,6 +68,13 @@ module _ (κs : Lfts 4) (a : ArgsD solve-second.signature κs) (r q : ResD solve
       × (now (s .1 .1 .0) ≡ now (t .1 .1 .0))
       × (now (s .1 .1 .1 .0) ≡ now (t .1 .1 .1 .0))
   solve-second-determined p e = (p .0 ∙ sym (e .0), p .1 .0 ∙ sym (e .1 .0), p .1 .1 .0 ∙ sym (e .1 .1 .0), p .1 .1 .1 ∙ sym (e .1 .1 .1))
+
+-- `set_second`: the answer
+module _ (κs : Lfts 1) (a : ArgsD set-second.signature κs) (r q : ResD set-second.signature κs)
+    (s t : AtExit (endedOf 1 set-second-kinds.ps set-second-kinds.r) κs) where
+  pub set-second-determined : set-second-reads.Post κs a r s → set-second-reads.Post κs a q t →
+      r ≡ q
+  set-second-determined p e = p ∙ sym e
 
 -- `solve`: the answer, `words`, `values`, `deviations`
 module _ (κs : Lfts 4) (a : ArgsD solve.signature κs) (r q : ResD solve.signature κs)

@@ -88,7 +88,8 @@ pub fn set_second(bytes: &[u8]) -> u64
     }
     let end = four_end(bytes);
     let held = held(&bytes[START_AT..end]);
-    held.set
+    let set = held.set;
+    set
 }
 
 // The verdict of reading: the fields, then what the four hold, each refusal at its place in the file.

@@ -13,7 +13,7 @@ use Rattle.records.specs.declared.Head.{Head}
 use Rattle.records.specs.declared.Verdict.{Verdict}
 use Rattle.records.specs.declared.Verdict.the-variants.{Accepted, Refused}
 use Rattle.meaning.specs.Design.{objects, blocks, sized, listLength, balanced}
-use Rattle.meaning.specs.Analysis.{reading}
+use Rattle.meaning.specs.Analysis.{reading, members}
 use Rattle.meaning.specs.Refusals.{accepted, refused, readingLimit, sumLimit, place, test, _⨾_, offends, offender, farReading}
 use Rattle.meaning.specs.Calls.{given, slices, contents, jobVerdict, rooms, analyseVerdict}
 use Rattle.meaning.specs.File.{headOf, blocksAt, thirdAt, readingsAt, blocksOf, readingsOf, fields, placed}
@@ -35,21 +35,23 @@ no-place true false c j k l most = omega arith
 no-place true true false j k l most = omega arith
 no-place true true true j k l most = omega arith
 
--- the four tests of what a job holds are refused at one of their two places, or at 0
-four-places : (a b c d : Bool) (byte far most : ℕ) → byte ≤ most → far ≤ most → place (test a 5 byte ⨾ test b 6 0 ⨾ test c 7 0 ⨾ test d 8 far) ≤ most
-four-places false b c d byte far most p q = p
-four-places true false c d byte far most p q = omega arith
-four-places true true false d byte far most p q = omega arith
-four-places true true true false byte far most p q = q
-four-places true true true true byte far most p q = omega arith
+-- the five tests of what a job holds are refused at one of their two places, or at 0
+five-places : (a b c t d : Bool) (byte far most : ℕ) → byte ≤ most → far ≤ most →
+    place (test a 5 byte ⨾ test b 6 0 ⨾ (test c 7 0 ⨾ test t 11 0) ⨾ test d 8 far) ≤ most
+five-places false b c t d byte far most p q = p
+five-places true false c t d byte far most p q = omega arith
+five-places true true false t d byte far most p q = omega arith
+five-places true true true false d byte far most p q = omega arith
+five-places true true true true false byte far most p q = q
+five-places true true true true true byte far most p q = omega arith
 
 module _ (h : Head) (d : List ℕ) (y : List ℤ) where
   -- what a job holds is refused at a byte of its blocks, at a reading, or at 0
   contents-place : (w : ℕ) (M : ℤ) → place (contents h d y w M) ≤ length d + length y
   unfolding contents offender farReading
   contents-place w M =
-      four-places (eqb (offender h d) (length d)) (balanced h d) (ltb 0 w && ltb w (2 ^ objects h) && leb (natAbs M) sumLimit)
-      (eqb (farReading y) (length y)) _ _ _
+      five-places (eqb (offender h d) (length d)) (balanced h d) (ltb 0 w && ltb w (2 ^ objects h) && leb (natAbs M) sumLimit)
+      (leb 2 (members (objects h) w)) (eqb (farReading y) (length y)) _ _ _
       (omega (arith, first-bounds (offends h d) 0 (length d)))
       (omega (arith, first-bounds (λ k. ltb readingLimit (natAbs (reading y k))) 0 (length y)))
 

@@ -1,7 +1,7 @@
 -- How large the place of a refusal of a file of the first edition is, so that it can be moved. Assumes nothing.
 use Prim.Native.Nat.{ℕ, _+_, _*_, _≤_}
 use mathlib.Core.Path.{_≡_, refl, sym, ap}
-use mathlib.Core.Bool.{Bool, true, false}
+use mathlib.Core.Bool.{Bool, true, false, _||_}
 use mathlib.Core.List.{List}
 use native.Mathlib.Omega.{arith}
 use lib.Dec.{eqb, leb}
@@ -64,9 +64,9 @@ fields-place s =
 -- a moved place is within the readings, four bytes each
 placed-most : (s : List ℕ) (v : Verdict) → thirdAt s ≤ 3210 → place v ≤ placeLimit → place (placed s v) ≤ 30000
 placed-most s Accepted t l = omega arith
-placed-most s (Refused k i) t l = by (eqb k 5) (eqb k 7) (eqb k 8) refl refl refl
+placed-most s (Refused k i) t l = by (eqb k 5) (eqb k 7 || eqb k 11) (eqb k 8) refl refl refl
   where
-    by : (a b c : Bool) → eqb k 5 ≡ a → eqb k 7 ≡ b → eqb k 8 ≡ c → place (placed s (refused k i)) ≤ 30000
+    by : (a b c : Bool) → eqb k 5 ≡ a → eqb k 7 || eqb k 11 ≡ b → eqb k 8 ≡ c → place (placed s (refused k i)) ≤ 30000
     by true b c e f g = rw e (omega arith)
     by false true c e f g = rw (e, f) (omega arith)
     by false false true e f g = rw (e, f, g) (omega arith)

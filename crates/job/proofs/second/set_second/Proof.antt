@@ -1,13 +1,12 @@
 -- `job::second::set_second` meets its contract: too few bytes hold nothing, and else the set stands in the four fields. Assumes nothing.
 use mathlib.Core.Path.{_≡_, sym, ap, _∙_}
-use mathlib.Core.List.{List, []}
-use Prim.Native.Nat.{ℕ, _-_, _≤_, _<_}
+use mathlib.Core.List.{List}
+use Prim.Native.Nat.{ℕ, _-_, _≤_}
 use native.Mathlib.Omega.{arith}
 use borrow.Author.Needs.{needs}
 use denote.Ref.{now}
 use lib.ListN.{length, take, drop}
 use Rattle.records.specs.declared.Held.{Held}
-use Rattle.meaning.specs.File.{big, setOf}
 use Rattle.meaning.specs.Edition2.{fourOf}
 use Rattle.laws.proofs.Edition2.{four-inside}
 use Rattle.fields.specs.Contents.{heldIn}
@@ -38,4 +37,13 @@ returns-2 c =
     ap (λ (k : Held). k .set) (c .held .ensures ∙ ap (λ (t : List ℕ). heldIn t) (four e))
 
 pub set-second-spec : {M : Type 1} → statement M
-set-second-spec = ?
+set-second-spec =
+    tie.close
+    (tie.spec
+    returns
+    (λ c κs. search needs)
+    (λ c. omega (arith, c .four-end .ensures))
+    (λ c. omega (arith, c .four-end .ensures))
+    (λ c. inside c)
+    (λ c κs. search needs)
+    returns-2)

@@ -330,7 +330,7 @@ module _ (s : List ℕ) where
   unfolding solvedCall solveVerdict2
   solve-second-numbered words values deviations answer real =
       let tests = numbered-then second-numbered (rooms-numbered (headOf (fourOf s)) (length words) (length values) (length deviations)) in
-      numbered-then (numbered-then tests (room-numbered (length answer) 12)) (room-numbered (length real) 1)
+      numbered-then (numbered-then tests (room-numbered (length answer) 13)) (room-numbered (length real) 1)
 
   pub to-second-numbered : (out answer : List ℕ) → Numbered (writtenCall (movedToSecond s out) answer)
   unfolding writtenCall toSecondVerdict

@@ -46,8 +46,8 @@ module _ (c : tie.After-column) where
   abbrev solved : tie.After-solve-second
   solved = c .before .before .before .before .before .before
 
-  in-file : c .before .before .set-second .result ≡ setOf (fourOf (file solved))
-  in-file = search (c .before .before .set-second .ensures)
+  in-file : c .before .set-second .result ≡ setOf (fourOf (file solved))
+  in-file = search (c .before .set-second .ensures)
 
   published : c .column .result ≡ columnOf (solved .solve-second .last .1 .1 .0) (solved .solve-second .result .denominator) (setOf (fourOf (file solved)))
   published = search (c .column .ensures) ∙ ap (λ (w : ℕ). columnOf (solved .solve-second .last .1 .1 .0) (solved .solve-second .result .denominator) w) in-file

@@ -110,7 +110,7 @@ fn jobs_are_refused_or_not() {
 
 #[test]
 fn one_standard_is_too_few() {
-    let (far, unbalanced) = ([0, 0, 0, 200_001, 0], [1, 4, 2, 0]);
+    let (far, unbalanced) = ([0, 0, 0, 200_000_001, 0], [1, 4, 2, 0]);
     for (set, number) in [(0, 7), (1, 11), (2, 11), (16, 11), (17, 0), (31, 0), (32, 7), (33, 7)] {
         let wanted = refusal_in(number);
         assert_eq!(refusal(A, &BLOCKS, &READINGS, set, SUM), wanted, "set {set}");
@@ -129,9 +129,9 @@ fn one_standard_is_too_few() {
     }
     // after 6 and 7, before 8
     assert_eq!(refusal(A, &unbalanced, &READINGS, 1, SUM), refused(Reason::Unbalanced, 0));
-    assert_eq!(refusal(A, &BLOCKS, &READINGS, 1, 1_000_000_001), refused(Reason::BadRestraint, 0));
+    assert_eq!(refusal(A, &BLOCKS, &READINGS, 1, 1_000_000_000_001), refused(Reason::BadRestraint, 0));
     assert_eq!(refusal(A, &BLOCKS, &far, 1, SUM), refused(Reason::OneStandard, 0));
-    assert_eq!(write(A, &BLOCKS, 1, -1_000_000_001, &far), refused(Reason::BadRestraint, 0));
+    assert_eq!(write(A, &BLOCKS, 1, -1_000_000_000_001, &far), refused(Reason::BadRestraint, 0));
     assert_eq!(write(A, &BLOCKS, 1, SUM, &far), refused(Reason::OneStandard, 0));
     assert_eq!(value_of(A, &BLOCKS, &far, 1, SUM, 5), refused(Reason::BadObject, 5));
     assert_eq!(value_of(A, &BLOCKS, &far, 1, SUM, 4), refused(Reason::OneStandard, 0));

@@ -259,7 +259,7 @@ fn restraint(draft: &mut Draft, seed: &mut Seed) {
 fn one_standard(draft: &mut Draft, seed: &mut Seed) {
     draft.restraint = 1 << seed.below(usize::from(draft.n).clamp(1, 50));
     match seed.below(3) {
-        0 => draft.sum = seed.pick(&[1_000_000_001, -1_000_000_001]),
+        0 => draft.sum = seed.pick(&[1_000_000_000_001, -1_000_000_000_001]),
         1 => several_readings(draft, seed),
         _ => {}
     }

@@ -226,12 +226,12 @@ fn publishing(figures: &mut Figures) {
 }
 
 /// The seeded jobs hold what publishing can go wrong by, each often enough: those of `calls 1 400` that are not harmed once more, by their parts, and those of
-/// `compare .. -- 1 1500`.
+/// `compare .. -- 1 1600`.
 fn seeds(figures: &mut Figures) {
     let first = stored::trials().len() as u64;
     let fixed = compare::fixed();
     let parts = (first..first + 400).filter(|index| index % 2 == 0).map(|index| damage::parts(1, index).draft.file());
-    let files = (0..1500).map(|index| compare::trial(&fixed, 1, index).bytes);
+    let files = (0..1600).map(|index| compare::trial(&fixed, 1, index).bytes);
     for (about, bytes, least) in [("seeded jobs by their parts", parts.collect::<Vec<_>>(), 3), ("seeded job files", files.collect(), 10)] {
         let mut often = BTreeMap::new();
         for job in bytes.iter().filter_map(|bytes| job::read(bytes).ok()) {

@@ -31,12 +31,14 @@
  *   9 | bytes follow the fourth field                                     | first such byte  | -
  *  10 | a room is too short, or slots of any kind are too few             | 0                | 0
  *  12 | the edition is not 2                                              | that byte        | -
- *  13 | a file that is moved to the first edition has an optional field   | its start        | -
+ *  13 | a file that is moved to the first edition has an optional field   | start of the     | -
+ *     |                                                                   | first one        |
  * A call that takes no file looks, of what it takes, for 4, then 3, 5, 6, 7, 11, 8. A file is looked at field by field: 1 for the
  * start, 2, 3, 1 for the body; 4 right after the first field; after the fourth 9; then 5, 6, 7, 11, 8. 10 comes last in every call. A file of the
  * second edition is first looked at for its length, 4 at 0, and its edition field, after whose own tests 12; in the place of 9 stand the
- * optional fields, for each 1, 2 (a tag below 80 hexadecimal or not above the one before), 3 (names not 8v bytes), 1. Development,
- * tables, totals and sums of squares need no balance: no 6. Deviations, Q and spread take no restraint: no 7, no 11.
+ * optional fields, for each 1, 2 (a tag below 80 hexadecimal or not above the one before), 3 (names not 8v bytes), 1. 13 comes after all
+ * checks of reading and before 10. Development, tables, totals and sums of squares need no balance: no 6. Deviations, Q and spread take
+ * no restraint: no 7, no 11.
  *
  * Sizes: n from 3 to 50; flag 0 to 3; v at most 50; p at least 1, 2p at most v; m from 1 to 64; b = m*n at most 1,300; readings within
  * +-200,000,000; the accepted sum within +-1,000,000,000,000.
@@ -279,8 +281,9 @@ uint64_t bench_listing(const uint8_t *bytes, size_t bytes_length,
                        uint8_t *out, size_t out_length,
                        uint64_t *answer, size_t answer_length);
 
-/* ---- files of the second edition: the field 10 00 01 02 (hexadecimal), the four fields, then optional fields with rising tags from 80
- * hexadecimal on. Tag 80 holds the names, eight bytes for each object; others are kept and skipped. */
+/* ---- files of the second edition, at most 16,384 bytes: the field 10 00 01 02 (hexadecimal), the four fields, then optional fields with
+ * rising tags from 80 hexadecimal on. Tag 80 holds the names, eight bytes for each object, filled with spaces, in object order; others are
+ * kept and skipped. */
 
 /* Reads a file: `signed_slots` and `answer` as of bench_read, places in this file, and in BENCH_NAMES_AT the byte at which the names start,
  * 0 where there are none. */

@@ -316,7 +316,7 @@ publishingRows =
     ∷ counting 4 (hundredthsIn 4 15 (pos 1) (listed (pos 1 ∷ pos 2 ∷ pos 2 ∷ pos 2 ∷ [])) 7) (pos 14 ∷ pos 29 ∷ pos 29 ∷ pos 28 ∷ [])
     -- -1/3 and 4/3: a whole sum of parts on both sides of zero
     ∷ counting 2 (hundredthsIn 2 3 (pos 1) (listed (negsuc 0 ∷ pos 4 ∷ [])) 3) (negsuc 32 ∷ pos 133 ∷ [])
-    -- a member of eight objects with 1/8: the others round alone, half to even
+    -- one member, of 5; the others, over eighths, round alone, half to even
     ∷ counting 3 (hundredthsIn 3 1 (pos 5) (listed (pos 40 ∷ pos 1 ∷ pos 3 ∷ [])) 8) (pos 500 ∷ pos 12 ∷ pos 38 ∷ [])
     ∷ counting 3 (hundredthsIn 3 4 (pos 5) (listed (negsuc 0 ∷ negsuc 2 ∷ pos 40 ∷ [])) 8) (negsuc 11 ∷ negsuc 37 ∷ pos 500 ∷ [])
     ∷ []

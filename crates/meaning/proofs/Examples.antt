@@ -89,7 +89,7 @@ table =
     -- H
     ∷ totals (head 7 0 2 3) 2 3 (negsuc 13) (pos 6649 ∷ pos 16533 ∷ negsuc 12136 ∷ pos 4926 ∷ pos 5058 ∷ negsuc 16704 ∷ negsuc 4323 ∷ [])
     (negsuc 10079 ∷ pos 9688 ∷ negsuc 47651 ∷ negsuc 13525 ∷ negsuc 13261 ∷ negsuc 56787 ∷ negsuc 32025 ∷ []) 28 (pos 62545461) 63177554 15 54849
-    -- I
+    -- I: the fractions as objects outside the restraint have them; its two members, 1/8 and -1/8, are 13 and -13 since P3
     ∷ publishes (pos 1) 8 (pos 12)
     ∷ publishes (pos 3) 8 (pos 38)
     ∷ publishes (negsuc 0) 8 (negsuc 11)

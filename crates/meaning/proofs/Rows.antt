@@ -84,7 +84,7 @@ pub data Row : Type 0 where
   totals : Head → ℕ → ℕ → ℤ → List ℤ → List ℤ → ℕ → ℤ → ℕ → ℕ → ℕ → Row
   -- Q, v·beta, f and k
   spreads : ℕ → ℕ → ℕ → ℕ → Row
-  -- a fraction and its hundredths
+  -- a fraction and its hundredths, of an object outside the restraint
   publishes : ℤ → ℕ → ℤ → Row
   -- a list of numbers and what it is to be
   holding : List ℕ → List ℕ → Row

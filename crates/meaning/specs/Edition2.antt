@@ -57,7 +57,7 @@ edition s = fieldVerdict s 0 16 1 ⨾ test (eqb (getD s 3 0) 2) 12 3
 unfoldable pub fourOf : List ℕ → List ℕ
 fourOf s = take (endAt (drop startAt s)) (drop startAt s)
 
--- a refusal of the four fields moved to its place in the whole file; 6 and 10 have none
+-- a refusal of the four fields moved to its place in the whole file; those of 6 and 10 stay at 0
 abbrev pub movedOn : Verdict → Verdict
 movedOn Accepted = accepted
 movedOn (Refused k at) = refused k (cond (eqb k 6 || eqb k 10) at (startAt + at))
@@ -84,7 +84,8 @@ optionalVerdict s names least at =
     ⨾ test (not (eqb (getD s at 0) namesTag) || eqb (big s (at + 1) 2) names) 3 at
     ⨾ test (leb (at + 3 + big s (at + 1) 2) (length s)) 1 at
 
--- the optional fields from `at` to the end of the file, of which there are at most k: each tag above the one before it
+-- the optional fields from `at` to the end of the file, of which there are at most k: each tag above the one before it. Where k is
+-- the length of the file it is never used up: each field has three bytes at least
 unfoldable pub optionals : ℕ → List ℕ → ℕ → ℕ → ℕ → Verdict
 optionals zero s names least at = accepted
 optionals (suc k) s names least at = cond (leb (length s) at) accepted

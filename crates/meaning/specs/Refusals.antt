@@ -48,7 +48,7 @@ readingLimit = 200000000
 abbrev pub sumLimit : ℕ
 sumLimit = 1000000000000
 
--- the byte x names an object of the design: a residue, or ∞ where it takes part
+-- the byte x names an object of the design: an element, or ∞ where it takes part
 abbrev pub inRange : Head → ℕ → Bool
 inRange h x = cond (eqb x 255) (withFixed h) (ltb x (h .n))
 

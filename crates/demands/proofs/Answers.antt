@@ -115,6 +115,7 @@ module _ (j : Job) where
     deviations-of-all = λ deviations e. writes-under _ (b j) _ deviations e (last-room (readingsVerdict h d y) (length deviations) (b j) e);
     deviation-of = λ i e. rw e;
     values-of-all = λ values e. writes-under _ (v j) _ values e (last-room (verdictOf j) (length values) (v j) e);
+    published-of-all = λ hundredths e. writes-under _ (v j) _ hundredths e (last-room (verdictOf j) (length hundredths) (v j) e);
     value-of = λ i e. rw e;
     analysis = λ words values deviations e. let (x, y, z) = three-written (verdictOf j) j words values deviations e in (x, y, z, rw e);
   }

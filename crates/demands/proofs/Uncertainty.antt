@@ -129,6 +129,7 @@ module _ (j : Job) (e : verdictOf j ≡ accepted) where
     of-others = of-others;
     over = over;
     handed-out = λ i. (refl, refl);
+    without-loss = λ i. (factor-small i, denominator-small);
     near = λ i. float-near (pos (factor h w i)) (denominatorOf h d w) (factor-small i) some denominator-small;
     of-all = λ t i l. of-members i (all-members (objects h) w t i l);
     sum-of-squares = squares;

@@ -21,7 +21,7 @@ use Rattle.meaning.specs.Analysis.{
   freedom,
   spreadHundredthsOf,
 }
-use Rattle.meaning.specs.Publishing.{spreadOf, valueOf}
+use Rattle.meaning.specs.Publishing.{published, spreadOf, valueOf}
 use Rattle.meaning.specs.Refusals.{accepted, refused, _⨾_}
 use Rattle.meaning.specs.Wide.{value, wide}
 use Rattle.meaning.specs.Calls.{
@@ -37,6 +37,7 @@ use Rattle.meaning.specs.Calls.{
   totalAnswer,
   valuesVerdict,
   valuesUnder,
+  publishedAfter,
   valueVerdict,
   valueAnswer,
   readingsVerdict,
@@ -117,9 +118,11 @@ module _ (j : Job) where
         (record { verdict = accepted; numerator = deviationOf h d y i; denominator = vbeta h d })
     -- ---- a whole job
 
-    -- `values`: the numerators of all; `value_of`: of object i
+    -- `values`: the numerators of all; `published`: the hundredths of all; `value_of`: of object i
     pub values-of-all : (values : List ℤ) → let verdict = valuesVerdict h d y w M (length values) in
         verdict ≡ accepted → WritesOnly values (valuesUnder verdict h d y w M values) 0 (v j) (numeratorOf h d y w M)
+    pub published-of-all : (hundredths : List ℤ) → valuesVerdict h d y w M (length hundredths) ≡ accepted →
+        WritesOnly hundredths (publishedAfter h d y w M hundredths) 0 (v j) (published h d y w M)
     pub value-of : (i : ℕ) → OnAcceptance (valueVerdict h d y w M i) (valueAnswer h d y w M i) (record { verdict = accepted; value = valueOf h d y w M i })
     -- `analyse`: everything at once, into three rooms
     pub analysis : (words : List ℕ) (values deviations : List ℤ) → let verdict = analyseVerdict h d y w M (length words) (length values) (length deviations) in

@@ -4,9 +4,12 @@
 -- Writing. Assumes nothing.
 use mathlib.Core.List.{List}
 use mathlib.Core.Path.{_≡_}
-use Prim.Native.Nat.{ℕ, _*_}
-use lib.IntN.{ℤ, pos}
+use mathlib.Core.Bool.{true}
+use mathlib.Core.Logic.{_↔_}
+use Prim.Native.Nat.{ℕ, _*_, _^_, _≤_, _<_}
+use lib.IntN.{ℤ, pos, natAbs}
 use lib.ListN.{length}
+use Rattle.meaning.specs.Analysis.{reading}
 use Rattle.meaning.specs.Refusals.{_⨾_}
 use Rattle.meaning.specs.Publishing.{noValue}
 use Rattle.meaning.specs.Wide.{wideZero}
@@ -26,6 +29,7 @@ use Rattle.meaning.specs.Calls.{
   totalAnswer,
   valuesVerdict,
   valuesUnder,
+  publishedAfter,
   valueVerdict,
   valueAnswer,
   readingsVerdict,
@@ -44,7 +48,7 @@ use Rattle.meaning.specs.Calls.{
   solvedUnder,
 }
 use Rattle.demands.specs.Job.{Job, v, b, verdictOf}
-use Rattle.demands.specs.Refusals.{four, threeBlocks, threeReadings, five, fiveFor, six, seven, eleven, eight, ten}
+use Rattle.demands.specs.Refusals.{restraintFits, readingsFit, four, threeBlocks, threeReadings, five, fiveFor, six, seven, eleven, eight, ten}
 use Rattle.demands.specs.Outcomes.{OnRefusal}
 
 module _ (j : Job) where
@@ -101,10 +105,18 @@ module _ (j : Job) where
 
     -- `refusal`: its verdict alone
     pub whole-job : verdictOf j ≡ four j ⨾ threeBlocks j ⨾ threeReadings j ⨾ five j ⨾ six j ⨾ seven j ⨾ eleven j ⨾ eight j
+    -- (7 and 8 by the numbers of the range, both inclusive: the restraint fits exactly if its set is not empty and below 2 to the power v, and M is within
+    -- ±1,000,000,000,000; the readings exactly if each is within ±200,000,000)
+    pub restraint-range : (restraintFits j ≡ true) ↔ ((0 < w) × (w < 2 ^ v j) × (natAbs M ≤ 1000000000000))
+    pub readings-range : (readingsFit j ≡ true) ↔ ((k : ℕ) → k < length y → natAbs (reading y k) ≤ 200000000)
     -- `values`: the numerators of all
     pub values-of-all : (values : List ℤ) → let verdict = valuesVerdict h d y w M (length values) in
         (verdict ≡ four j ⨾ threeBlocks j ⨾ threeReadings j ⨾ five j ⨾ six j ⨾ seven j ⨾ eleven j ⨾ eight j ⨾ ten (length values) (v j))
         × OnRefusal verdict (valuesUnder verdict h d y w M values) values
+    -- `published`: the hundredths of all
+    pub published-of-all : (hundredths : List ℤ) → let verdict = valuesVerdict h d y w M (length hundredths) in
+        (verdict ≡ four j ⨾ threeBlocks j ⨾ threeReadings j ⨾ five j ⨾ six j ⨾ seven j ⨾ eleven j ⨾ eight j ⨾ ten (length hundredths) (v j))
+        × OnRefusal verdict (publishedAfter h d y w M hundredths) hundredths
     -- `value_of`: of object i; the number of a missing one comes after the other 5 and before 6
     pub value-of : (i : ℕ) → let verdict = valueVerdict h d y w M i in
         (verdict ≡ four j ⨾ threeBlocks j ⨾ threeReadings j ⨾ five j ⨾ fiveFor i (v j) ⨾ six j ⨾ seven j ⨾ eleven j ⨾ eight j)

@@ -1,5 +1,6 @@
 -- DEMAND 2. A well-formed design within the sizes is accepted exactly if, developed, it is balanced as the paper defines it. Parameters, values and
 -- deviations are the paper's whole-number fractions, the spread its standard deviation cut to hundredths, each f64 the one rounded quotient.
+-- It speaks of jobs with at least two standards: what is well-formed has them (02, P5).
 -- Here stand the files; direct calls stand in Answers, and what the words mean in Papers. Assumes nothing.
 use mathlib.Core.List.{List}
 use mathlib.Core.Logic.{_↔_}

@@ -1,12 +1,13 @@
 -- DEMAND 3. For an accepted job the exact values keep the restraint, and every other set that keeps it, in fractions of any denominator, has a larger sum
 -- of squared deviations. The certificate adds up: the members' published values add to M. Each published value is less than a hundredth of a count
--- away for members, at most half a hundredth for the others; the published set's excess is at most beta·v²/10,000. Assumes nothing.
+-- away for members, at most half a hundredth for the others; the published set's excess is at most beta·v²/10,000. It speaks of jobs with at least two
+-- standards, as every accepted job has (02, P5). Assumes nothing.
 use mathlib.Core.Bool.{cond}
 use mathlib.Core.List.{List}
 use mathlib.Core.Path.{_≡_}
-use Prim.Native.Nat.{ℕ, _*_, _%_, _<_}
+use Prim.Native.Nat.{ℕ, _*_, _%_, _≤_, _<_}
 use lib.Dec.{ltb}
-use lib.IntN.{pos, natAbs, _-ℤ_, _*ℤ_}
+use lib.IntN.{pos, natAbs, _+ℤ_, _-ℤ_, _*ℤ_}
 use Rattle.algebra.specs.Ranges.{sumℕ}
 use Rattle.meaning.specs.Design.{beta}
 use Rattle.meaning.specs.Analysis.{member, members, restrained, denominatorOf}
@@ -34,12 +35,15 @@ excess j = record { top = pos (beta (j .head) (j .initial) * v j * v j); bottom 
 abbrev pub Member : Job → ℕ → Type 0
 Member j i = member (j .set) i ≡ 1
 
--- what the members' floors leave of 100·M, and whether object i gains a hundredth of it
+-- what the members' floors leave of 100·M, how far 100 times the value of object i is above its floor, and whether member i gains a hundredth
 abbrev pub shortfallOf : Job → ℕ
 shortfallOf j = shortfall (v j) (j .set) (j .sum) (λ i. exact j i .top) (denominatorOf (j .head) (j .initial) (j .set))
 
+abbrev pub partOf : Job → ℕ → ℕ
+partOf j i = part (pos 100 *ℤ exact j i .top) (exact j i .bottom)
+
 abbrev pub gains : Job → ℕ → ℕ
-gains j i = cond (ltb (rank (v j) (j .set) (λ k. part (pos 100 *ℤ exact j k .top) (exact j k .bottom)) i) (shortfallOf j)) 1 0
+gains j i = cond (ltb (rank (v j) (j .set) (partOf j) i) (shortfallOf j)) 1 0
 
 -- ---- what an accepted job keeps
 
@@ -63,6 +67,10 @@ pub record LeastSquares (j : Job) : Type 0 where
       pos 100 *ℤ j .sum -ℤ restrained (v j) (j .set) (λ i. floor (pos 100 *ℤ exact j i .top) (exact j i .bottom)) ≡ pos (shortfallOf j)
   pub shortfall-below : shortfallOf j < members (v j) (j .set)
   pub as-many-gain : sumℕ (v j) (λ i. member (j .set) i * gains j i) ≡ shortfallOf j
+  -- (a member's hundredths are its floor, below zero too, and the one that it gains; the largest parts gain first, the lowest object first among equals)
+  pub members-are : (i : ℕ) → Member j i → published j i .top ≡ floor (pos 100 *ℤ exact j i .top) (exact j i .bottom) +ℤ pos (gains j i)
+  pub larger-part-first : (i k : ℕ) → Member j i → Member j k → partOf j k < partOf j i → gains j k ≤ gains j i
+  pub lowest-among-equals : (i k : ℕ) → Member j i → Member j k → partOf j k ≡ partOf j i → i < k → gains j k ≤ gains j i
   -- Each published value is less than a hundredth of a count away for members,
   pub members-near : (i : ℕ) → Member j i → distance (published j i) (exact j i) <ᶠ hundredth
   -- half a hundredth for the others;

@@ -2,7 +2,7 @@
 -- with its f64 by one division. The factor equals the sum of squares of the coefficients with which the readings enter that value. Assumes nothing.
 use mathlib.Core.List.{List}
 use mathlib.Core.Path.{_≡_}
-use Prim.Native.Nat.{ℕ, _+_, _-_, _*_, _<_}
+use Prim.Native.Nat.{ℕ, _+_, _-_, _*_, _^_, _<_}
 use lib.IntN.{ℤ, pos, _-ℤ_}
 use Rattle.meaning.specs.Design.{beta}
 use Rattle.meaning.specs.Analysis.{reading, member, members, denominatorOf, coefficient, factor}
@@ -46,6 +46,7 @@ module _ (j : Job) where
     pub over : bottom ≡ t * (v j * beta h d)
     -- with its f64 by one division of two whole numbers that convert without loss, as every f64 is made
     pub handed-out : (i : ℕ) → (valueOf h d y w M i .factor ≡ factor h w i) × (valueOf h d y w M i .«factor_value» ≡ float (pos (factor h w i)) bottom)
+    pub without-loss : (i : ℕ) → (factor h w i < 2 ^ 53) × (bottom < 2 ^ 53)
     pub near : (i : ℕ) → Near 53 (valueOf h d y w M i .«factor_value») (pos (factor h w i)) bottom
     -- A restraint covering all v objects uses t-1 throughout
     pub of-all : t ≡ v j → (i : ℕ) → i < v j → factor h w i ≡ t - 1

@@ -41,11 +41,11 @@ two-out : (a b c : Verdict) → a ⨾ (b ⨾ c) ≡ a ⨾ b ⨾ c
 two-out Accepted b c = refl
 two-out (Refused k at) b c = refl
 
-four-out : (a b c e g f : Verdict) → a ⨾ (b ⨾ c ⨾ (e ⨾ g) ⨾ f) ≡ a ⨾ b ⨾ c ⨾ e ⨾ g ⨾ f
+pub four-out : (a b c e g f : Verdict) → a ⨾ (b ⨾ c ⨾ (e ⨾ g) ⨾ f) ≡ a ⨾ b ⨾ c ⨾ e ⨾ g ⨾ f
 four-out Accepted b c e g f = ap (λ (v : Verdict). v ⨾ f) (two-out (b ⨾ c) e g)
 four-out (Refused k at) b c e g f = refl
 
-three-out : (a b c e : Verdict) → a ⨾ (b ⨾ c ⨾ e) ≡ a ⨾ b ⨾ c ⨾ e
+pub three-out : (a b c e : Verdict) → a ⨾ (b ⨾ c ⨾ e) ≡ a ⨾ b ⨾ c ⨾ e
 three-out Accepted b c e = refl
 three-out (Refused k at) b c e = refl
 

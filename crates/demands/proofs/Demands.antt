@@ -8,6 +8,7 @@
 --     writing-jobs, writing-files    specs/Writing                   each accepted job has exactly one file (02, P1)
 --     designs-over-fields, the-fields    specs/Fields                what the addition of a field is, and what is refused (02, P4)
 --     files-of-the-first-edition, files-of-the-second-edition    specs/Edition2    moved from one edition to the other (02, P7)
+--     calls-on-the-second-edition, writing-the-second-edition    specs/SecondCalls    what the calls on such files hand back and leave (02, P7)
 --     sums-of-days, sums-of-files    specs/Days                      the figures of two days add to those of their sum (02, P12)
 --     sums-of-deviations, -in-files  specs/Days                      what the deviations of an accepted job add to (02, P12)
 -- Assumes nothing.
@@ -33,6 +34,7 @@ use Rattle.demands.specs.Fields.{OverFields, TheFields}
 use Rattle.demands.specs.Uncertainty.{UncertaintyPerObject, UncertaintyPerObjectCalls}
 use Rattle.demands.specs.Writing.{WritingJobs, WritingFiles}
 use Rattle.demands.specs.Edition2.{FirstEdition, SecondEdition}
+use Rattle.demands.specs.SecondCalls.{SecondCalls, WritingSecond}
 use Rattle.demands.specs.Days.{SumsOfDays, SumsOfFiles, SumsOfDeviations, SumsOfDeviationsIn}
 use Rattle.demands.proofs.Order.{file-order, rooms-last, reading-ends, solving-ends, keeps-position, fields-led}
 use Rattle.demands.proofs.Calls.{refusing}
@@ -44,6 +46,7 @@ use Rattle.demands.proofs.Fields.{over-fields, listed-fields}
 use Rattle.demands.proofs.Uncertainty.{uncertainty}
 use Rattle.demands.proofs.Writing.{jobs-written, files-written}
 use Rattle.demands.proofs.Edition2.{first-edition, second-edition}
+use Rattle.demands.proofs.SecondCalls.{second-calls, second-written}
 use Rattle.demands.proofs.Days.{days-added, files-added, deviations-added}
 
 pub demand-1 : (s : List ℕ) → Demand1 s
@@ -123,6 +126,12 @@ files-of-the-first-edition = first-edition
 
 pub files-of-the-second-edition : (s : List ℕ) → SecondEdition s
 files-of-the-second-edition = second-edition
+
+pub calls-on-the-second-edition : (s : List ℕ) → SecondCalls s
+calls-on-the-second-edition = second-calls
+
+pub writing-the-second-edition : (j : Job) (names : List ℕ) → WritingSecond j names
+writing-the-second-edition = second-written
 
 pub sums-of-days : (one two : Job) → SumsOfDays one two
 sums-of-days = days-added

@@ -5,13 +5,12 @@ use mathlib.Core.List.{List}
 use Prim.Native.Nat.{ℕ, zero, suc, _+_, _*_, _≤_, _<_}
 use native.Mathlib.Omega.{arith}
 use native.Mathlib.Decide.{decLe}
-use borrow.Author.Tests.{le-leb, lt-leb, leb-true, eqb-true, eq-eqb}
+use borrow.Author.Tests.{le-leb, lt-leb, leb-true, eqb-true, eq-eqb, ne-eqb}
 use lib.Dec.{eqb, leb}
-use lib.ListN.{length, getD, take, drop, List·getD-eq-default}
-use lib.Seq.{take-at}
+use lib.ListN.{length, getD, take, drop, length-drop, List·getD-eq-default}
+use lib.Seq.{take-at, drop-at, length-take-le}
 use Rattle.records.specs.declared.Verdict.{Verdict}
 use Rattle.records.specs.declared.Verdict.the-variants.{Accepted, Refused}
-use Rattle.meaning.specs.Design.{objects}
 use Rattle.meaning.specs.Refusals.{accepted, test, _⨾_, room}
 use Rattle.meaning.specs.File.{big, headOf, fieldVerdict, fields, readVerdict}
 use Rattle.meaning.specs.Text.{textUnder, textOf}
@@ -35,18 +34,24 @@ use Rattle.meaning.specs.Edition2.{
   putAfter,
   secondOf,
   toSecondVerdict,
+  toSecondAfter,
   toFirstVerdict,
 }
 use Rattle.laws.proofs.Chains.{opened, held, accepts, test-yes, given-no}
 use Rattle.laws.proofs.Writing.{one-file}
-use Rattle.laws.proofs.Edition2.{four-part, four-inside, four-second, whole, file-job2, to-second, second-text, to-first, first-reader}
+use Rattle.laws.proofs.Edition2.{four-part, four-inside, four-second, whole, file-job2, optionals-end, to-second, second-text, to-first, first-reader}
 use Rattle.demands.proofs.FourFields.{four-places}
 use Rattle.demands.specs.Job.{jobIn}
-use Rattle.demands.specs.Edition2.{inSecond, inFirst, FirstEdition, SecondEdition}
+use Rattle.demands.specs.Edition2.{inSecond, inFirst, objectsIn, nameOf, optionalsFrom, Rising, FirstEdition, SecondEdition}
+use Rattle.demands.specs.Edition2.Rising.{no-more, one-more}
 
 -- what an accepted call put is the file
 put-is : (v : Verdict) (file out : List ℕ) → v ≡ accepted → take (putAnswer v file .length) (putAfter v file out) ≡ file
 put-is v file out e = rw e (take-at file (drop (length file) out) (length file) refl)
+
+-- and what follows it in the room stays
+put-later : (v : Verdict) (file out : List ℕ) → v ≡ accepted → drop (length file) (putAfter v file out) ≡ drop (length file) out
+put-later v file out e = rw e (drop-at file (drop (length file) out) (length file) refl)
 
 -- a chain is read from either end
 joined : (a b c : Verdict) → a ⨾ (b ⨾ c) ≡ a ⨾ b ⨾ c
@@ -59,6 +64,9 @@ module _ (s : List ℕ) where
   second-yes : (len : ℕ) → readVerdict s ≡ accepted → 4 + length s ≤ len → toSecondVerdict s len ≡ accepted
   unfolding toSecondVerdict
   second-yes len e l = accepts e (test-yes (leb (4 + length s) len) 10 0 (le-leb (4 + length s) len l))
+
+  second-long : length (secondOf s) ≡ 4 + length s
+  second-long = omega arith
 
   in-second : (out : List ℕ) → toSecondVerdict s (length out) ≡ accepted → inSecond s out ≡ secondOf s
   in-second out e = put-is (toSecondVerdict s (length out)) (secondOf s) out e
@@ -94,6 +102,80 @@ module _ (s : List ℕ) where
   ends : readVerdict2 s ≡ accepted → length s ≤ optionalAt s → optionalAt s ≡ length s
   ends e l = omega (arith, four-inside s (whole s (file-job2 s e .0) .edition-there .long))
 
+  -- ---- optional fields
+
+  -- as many turns as there are bytes left are enough, and more change nothing
+  more-turns : (k m names least at : ℕ) → length s ≤ at + k → length s ≤ at + m → optionals k s names least at ≡ optionals m s names least at
+  unfolding optionals
+  more-turns zero m names least at p q = optionals-end zero s names least at (omega arith) ∙ sym (optionals-end m s names least at (omega arith))
+  more-turns (suc k) zero names least at p q = optionals-end (suc k) s names least at (omega arith) ∙ sym (optionals-end zero s names least at (omega arith))
+  more-turns (suc k) (suc m) names least at p q = turn (λ l. more-turns k m names (getD s at 0 + 1) (at + 3 + big s (at + 1) 2) (omega arith) (omega arith))
+      (decLe (length s) at)
+    where
+      turn : (at < length s → optionals k s names (getD s at 0 + 1) (at + 3 + big s (at + 1) 2)
+          ≡ optionals m s names (getD s at 0 + 1) (at + 3 + big s (at + 1) 2)) → Dec (length s ≤ at) →
+          optionals (suc k) s names least at ≡ optionals (suc m) s names least at
+      turn ih (yes l) = optionals-end (suc k) s names least at l ∙ sym (optionals-end (suc m) s names least at l)
+      turn ih (no l) = rw (lt-leb (length s) at (omega arith)) (ap (λ (v : Verdict). optionalVerdict s names least at ⨾ v) (ih (omega arith)))
+
+  -- one optional field, and the rest of them
+  pub one-optional : (least at : ℕ) → at < length s →
+      optionalsFrom s least at ≡ optionalVerdict s (8 * objectsIn s) least at ⨾ optionalsFrom s (getD s at 0 + 1) (at + 3 + big s (at + 1) 2)
+  unfolding optionals
+  one-optional least at l = more-turns (length s) (suc (length s)) (8 * objectsIn s) least at (omega arith) (omega arith) ∙ turn
+    where
+      turn : optionals (suc (length s)) s (8 * objectsIn s) least at
+          ≡ optionalVerdict s (8 * objectsIn s) least at ⨾ optionalsFrom s (getD s at 0 + 1) (at + 3 + big s (at + 1) 2)
+      turn = rw (lt-leb (length s) at l) refl
+
+  -- what an accepted optional field says
+  module _ (names least at : ℕ) (e : optionalVerdict s names least at ≡ accepted) where
+    abbrev one : Verdict
+    one = test (leb (at + 3) (length s)) 1 at
+
+    abbrev two : Verdict
+    two = test (leb least (getD s at 0)) 2 at
+
+    abbrev three : Verdict
+    three = test (not (eqb (getD s at 0) namesTag) || eqb (big s (at + 1) 2) names) 3 at
+
+    abbrev last : Verdict
+    last = test (leb (at + 3 + big s (at + 1) 2) (length s)) 1 at
+
+    body-inside : at + 3 + big s (at + 1) 2 ≤ length s
+    unfolding optionalVerdict
+    body-inside = leb-true _ _ (held (leb (at + 3 + big s (at + 1) 2) (length s)) 1 at (opened (one ⨾ two ⨾ three) last e .1))
+
+    tag-least : least ≤ getD s at 0
+    unfolding optionalVerdict
+    tag-least = leb-true _ _ (held (leb least (getD s at 0)) 2 at (opened one two (opened (one ⨾ two) three (opened (one ⨾ two ⨾ three) last e .0) .0) .1))
+
+    names-told : getD s at 0 ≡ namesTag → big s (at + 1) 2 ≡ names
+    unfolding optionalVerdict
+    names-told tag = eqb-true _ _ (rw (eq-eqb (getD s at 0) namesTag tag) at
+        (held (not (eqb (getD s at 0) namesTag) || eqb (big s (at + 1) 2) names) 3 at (opened (one ⨾ two) three (opened (one ⨾ two ⨾ three) last e .0) .1)))
+
+  -- accepted ones rise, and end where the file does
+  rise : (k least at : ℕ) → at ≤ length s → length s ≤ at + k → optionals k s (8 * objectsIn s) least at ≡ accepted → Rising s least at
+  unfolding optionals
+  rise zero least at l m e = let ended : length s ≡ at = omega arith in subst (Rising s least) ended (no-more least)
+  rise (suc k) least at l m e = turn (λ o n. rise k (getD s at 0 + 1) (at + 3 + big s (at + 1) 2) o (omega arith) n) (decLe (length s) at)
+    where
+      turn : (at + 3 + big s (at + 1) 2 ≤ length s → optionals k s (8 * objectsIn s) (getD s at 0 + 1) (at + 3 + big s (at + 1) 2) ≡ accepted →
+          Rising s (getD s at 0 + 1) (at + 3 + big s (at + 1) 2)) → Dec (length s ≤ at) → Rising s least at
+      turn ih (yes o) = let ended : length s ≡ at = omega arith in subst (Rising s least) ended (no-more least)
+      turn ih (no o) =
+          let both = opened (optionalVerdict s (8 * objectsIn s) least at) (optionals k s (8 * objectsIn s) (getD s at 0 + 1) (at + 3 + big s (at + 1) 2))
+          (rw (lt-leb (length s) at (omega arith)) at e) in
+          let inside = body-inside (8 * objectsIn s) least at (both .0) in
+          one-more least at (tag-least (8 * objectsIn s) least at (both .0)) (names-told (8 * objectsIn s) least at (both .0)) inside (ih inside (both .1))
+
+  rises : readVerdict2 s ≡ accepted → Rising s 128 (optionalAt s)
+  unfolding optionalFields
+  rises e =
+      let w = whole s (file-job2 s e .0) in
+      rise (length s) 128 (optionalAt s) (four-inside s (w .edition-there .long)) (omega arith) (w .optional)
+
   -- the first optional field of an accepted file, where there is one
   first-optional : (k names least at : ℕ) → at < length s → length s ≤ at + k → optionals k s names least at ≡ accepted →
       optionalVerdict s names least at ≡ accepted
@@ -114,29 +196,22 @@ module _ (s : List ℕ) where
     unfolding optionalFields
     found = first-optional (length s) (namesLength (headOf (fourOf s))) namesTag (optionalAt s) there (omega arith) (whole s (file-job2 s e .0) .optional)
 
-    told : big s (optionalAt s + 1) 2 ≡ namesLength (headOf (fourOf s))
-    unfolding optionalVerdict
-    told =
-        let at = optionalAt s in
-        let n = namesLength (headOf (fourOf s)) in
-        let three = test (not (eqb (getD s at 0) namesTag) || eqb (big s (at + 1) 2) n) 3 at in
-        let front = test (leb (at + 3) (length s)) 1 at ⨾ test (leb namesTag (getD s at 0)) 2 at in
-        let a = opened (front ⨾ three) (test (leb (at + 3 + big s (at + 1) 2) (length s)) 1 at) found in
-        let h = held (not (eqb (getD s at 0) namesTag) || eqb (big s (at + 1) 2) n) 3 at (opened front three (a .0) .1) in
-        eqb-true _ _ (rw (eq-eqb (getD s at 0) namesTag tag) at h)
+    told : big s (optionalAt s + 1) 2 ≡ 8 * objectsIn s
+    told = names-told (8 * objectsIn s) namesTag (optionalAt s) found tag
 
     body : optionalAt s + 3 + big s (optionalAt s + 1) 2 ≤ length s
-    unfolding optionalVerdict
-    body =
-        let at = optionalAt s in
-        let front = test (leb (at + 3) (length s)) 1 at ⨾ test (leb namesTag (getD s at 0)) 2 at
-        ⨾ test (not (eqb (getD s at 0) namesTag) || eqb (big s (at + 1) 2) (namesLength (headOf (fourOf s)))) 3 at in
-        leb-true _ _ (held (leb (at + 3 + big s (at + 1) 2) (length s)) 1 at (opened front _ found .1))
+    body = body-inside (8 * objectsIn s) namesTag (optionalAt s) found
 
-    names-there : (namesAt s ≡ optionalAt s + 3) × (big s (optionalAt s + 1) 2 ≡ 8 * objects (headOf (fourOf s)))
-        × (namesAt s + 8 * objects (headOf (fourOf s)) ≤ length s)
+    names-there : (namesAt s ≡ optionalAt s + 3) × (big s (optionalAt s + 1) 2 ≡ 8 * objectsIn s) × (namesAt s + 8 * objectsIn s ≤ length s)
     names-there = let at : namesAt s ≡ optionalAt s + 3 = rw (eq-eqb (getD s (optionalAt s) 0) namesTag tag) refl in
         (at, told, omega (arith, at, told, body))
+
+    -- that of each object
+    name-there : (i : ℕ) → i < objectsIn s → (length (nameOf s i) ≡ 8) × (namesAt s + 8 * i + 8 ≤ optionalAt s + 3 + big s (optionalAt s + 1) 2)
+    name-there i l =
+        let at = names-there .0 in
+        let inside : namesAt s + 8 * i + 8 ≤ optionalAt s + 3 + big s (optionalAt s + 1) 2 = omega (arith, at, told) in
+        (length-take-le 8 (drop (namesAt s + 8 * i) s) (omega (arith, inside, body, length-drop (namesAt s + 8 * i) s)), inside)
 
 -- ---- the request
 
@@ -145,6 +220,10 @@ unfolding toSecondVerdict
 first-edition s = record {
   order = λ len. refl;
   leaves = λ out k at e. given-no _ _ out k at e;
+  hands-back = λ len k at e. rw e;
+  hands-back-its-length = λ len e. rw e (ap (λ (c : ℕ). record { verdict = accepted; length = c }) (second-long s));
+  later-bytes-stay = λ out e. ap (λ (c : ℕ). drop c (toSecondAfter s out)) (sym (second-long s)) ∙ put-later _ (secondOf s) out e
+      ∙ ap (λ (c : ℕ). drop c out) (second-long s);
   there-and-back = λ out back e l m.
       let v = second-yes s (length out) e l in
       let t = in-second s out v in
@@ -152,25 +231,37 @@ first-edition s = record {
       let r = first-yes (secondOf s) (length back) (to-second s e) (omega (arith, ap length four)) (omega (arith, ap length four)) in
       let w = subst (λ (u : List ℕ). toFirstVerdict u (length back) ≡ accepted) (sym t) r in
       (v, w, in-first (inSecond s out) back w ∙ ap fourOf t ∙ four);
-  keeps-every-byte = λ out e. ap (drop 4) (in-second s out e);
+  keeps-every-byte = λ out e. in-second s out e;
   same-job = λ e. (to-second s e, ap jobIn (four-second s e));
   same-listing = second-text s;
   one-file-per-job = λ j u a b p q. one-file s u (j .head) (j .initial) (j .readings) (j .set) (j .sum) a b p q;
 }
 
 pub second-edition : (s : List ℕ) → SecondEdition s
-unfolding readVerdict2 fields2 edition toFirstVerdict textOf2 textOf
+unfolding readVerdict2 fields2 edition optionalVerdict optionalFields toFirstVerdict textOf2 textOf
 second-edition s = record {
   order = ap (λ (v : Verdict). v ⨾ movedOn (fields (fourOf s)) ⨾ optionalFields s ⨾ movedOn (readVerdict (fourOf s)))
       (joined (test (leb (length s) 16384) 4 0) (fieldVerdict s 0 16 1) (test (eqb (getD s 3 0) 2) 12 3));
   too-long = λ l. rw (lt-leb (length s) 16384 l) refl;
   four-fields = four-places s;
+  optional-from = refl;
+  optional-none = λ least at l. optionals-end (length s) s (8 * objectsIn s) least at l;
+  optional-one = one-optional s;
+  optional-rising = rises s;
   holds-the-four = λ e. (file-job2 s e .1, sym (four-part s));
   same-listing = λ e. ap (λ (v : Verdict). textUnder v (fourOf s)) (e ∙ sym (file-job2 s e .1));
   names = names-there s;
+  each-name = name-there s;
+  no-names = λ other. rw (ne-eqb (getD s (optionalAt s) 0) namesTag other) refl;
+  others-skipped = λ u e f same. ap (λ (v : Verdict). textUnder v (fourOf s)) e ∙ ap (textUnder accepted) same ∙ ap (λ (v : Verdict). textUnder v (fourOf u)) (sym f);
   first-edition-reader = λ e. first-reader s (edition-yes s e);
+  by-its-edition-field = first-reader s;
   back-order = λ len. refl;
   leaves = λ out k at e. given-no _ _ out k at e;
+  hands-back = λ len k at e. rw e;
+  hands-back-its-length = λ len e. rw e;
+  moved-is = in-first s;
+  later-bytes-stay = λ out e. put-later _ (fourOf s) out e;
   done-only = λ len e. let b = moved-back s len e in ends s (b .0) (b .1);
   done-there = λ len e none l. first-yes s len e (omega (arith, none)) l;
   back-and-there = λ out forth e l.

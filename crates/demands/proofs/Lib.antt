@@ -12,6 +12,7 @@ pub mod Writing
 pub mod Fields
 pub mod FourFields
 pub mod Edition2
+pub mod SecondCalls
 pub mod Days
 pub mod Demands
 pub mod Rows

@@ -14,4 +14,5 @@ pub mod Uncertainty
 pub mod Writing
 pub mod Fields
 pub mod Edition2
+pub mod SecondCalls
 pub mod Days

@@ -19,8 +19,9 @@ use lib.ListN.{length, drop}
 use lib.Seq.{take-at, drop-at}
 use Rattle.records.specs.declared.Head.{Head}
 use Rattle.records.specs.declared.Verdict.{Verdict}
-use Rattle.meaning.specs.File.{readVerdict, solveVerdict}
+use Rattle.meaning.specs.File.{headOf, blocksOf, readingsOf, setOf, sumOf, readVerdict, solveVerdict}
 use Rattle.meaning.specs.Text.{textUnder, textOf}
+use Rattle.laws.proofs.Chains.{job}
 use Rattle.laws.proofs.Files.{file-job, job-file}
 use Rattle.laws.proofs.Cut.{longest-file, bench-text}
 use Rattle.laws.proofs.Enough.{text-length}
@@ -41,6 +42,7 @@ use Rattle.demands.proofs.Calls.{refusing}
 use Rattle.demands.proofs.Balance.{file-exactly, file-unbalanced, file-well-formed}
 use Rattle.demands.proofs.Papers.{papers-fractions}
 use Rattle.demands.proofs.Answers.{answering, three-written}
+use Rattle.demands.proofs.Whole.{q-in-full}
 use Rattle.demands.proofs.Published.{least-squares}
 use Rattle.demands.proofs.Fields.{over-fields, listed-fields}
 use Rattle.demands.proofs.Uncertainty.{uncertainty}
@@ -92,6 +94,7 @@ demand-2 s = record {
   solving-hands-back = λ words values deviations e. rw e;
   reading-hands-back = λ e. rw e;
   printed = λ e. ap (λ (v : Verdict). textUnder v s) e;
+  Q-in-full = λ e. q-in-full (headOf s) (blocksOf s) (readingsOf s) (job (headOf s) (blocksOf s) (readingsOf s) (setOf s) (sumOf s) (file-job s e .1) .measures);
 }
 
 pub demand-2-calls : (j : Job) → Demand2Calls j

@@ -2,20 +2,25 @@
 -- deviations are the paper's whole-number fractions, the spread its standard deviation cut to hundredths, each f64 the one rounded quotient.
 -- It speaks of jobs with at least two standards: what is well-formed has them (02, P5).
 -- Here stand the files; direct calls stand in Answers, and what the words mean in Papers. Assumes nothing.
-use mathlib.Core.List.{List}
+use mathlib.Core.List.{List, [], _∷_}
 use mathlib.Core.Logic.{_↔_}
 use mathlib.Core.Path.{_≡_}
-use Prim.Native.Nat.{ℕ, _*_}
+use Prim.Native.Nat.{ℕ, _+_, _-_, _*_}
 use lib.IntN.{ℤ}
 use Rattle.meaning.specs.Design.{parametersOf}
-use Rattle.meaning.specs.Analysis.{numeratorOf, denominatorOf, deviationOf}
+use Rattle.meaning.specs.Analysis.{numeratorOf, denominatorOf, deviationOf, qOf}
 use Rattle.meaning.specs.Refusals.{accepted, refused}
 use Rattle.meaning.specs.Calls.{wordAt, spreadingOf, solvedUnder}
 use Rattle.meaning.specs.File.{fields, blocksAt, readingsAt, readVerdict, readAnswer, solveVerdict}
-use Rattle.meaning.specs.Text.{jobText, textOf}
+use Rattle.meaning.specs.Text.{digits, wideText, jobText, textOf}
 use Rattle.demands.specs.Job.{Job, jobIn, v, b, verdictOf, IsBalanced}
 use Rattle.demands.specs.Outcomes.{OnAcceptance, WritesOnly, solving, wordsAfter, valuesAfter, deviationsAfter}
 use Rattle.demands.specs.Papers.{WellFormed, PapersFractions}
+
+-- the number that n and decimal digits after it make, in ASCII
+abbrev pub decimalFrom : ℕ → List ℕ → ℕ
+decimalFrom n [] = n
+decimalFrom n (x ∷ xs) = decimalFrom (10 * n + (x - 48)) xs
 
 module _ (s : List ℕ) where
   open Job (jobIn s) using (head as h, initial as d, readings as y, set as w, sum as M)
@@ -44,3 +49,5 @@ module _ (s : List ℕ) where
         (record { verdict = accepted; head = h; «blocks_at» = blocksAt; «readings_at» = readingsAt s; set = w; sum = M })
     -- and what the program prints
     pub printed : readVerdict s ≡ accepted → textOf s ≡ jobText h d y w M
+    -- (Q in full decimal: its digits, after a space, read back as Q)
+    pub Q-in-full : readVerdict s ≡ accepted → (wideText (spreadingOf h d y .q) ≡ 32 ∷ digits 39 (qOf h d y)) × (decimalFrom 0 (digits 39 (qOf h d y)) ≡ qOf h d y)

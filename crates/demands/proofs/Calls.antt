@@ -68,7 +68,8 @@ module _ (j : Job) where
   unfolding farReading
   readings-back near =
       let none : farReading y ≡ 0 + length y =
-      first-from-none (λ k. ltb readingLimit (natAbs (reading y k))) 0 (length y) (λ k a l. le-ltb readingLimit (natAbs (reading y k)) (near k (omega arith))) in
+      first-from-none (λ k. ltb readingLimit (natAbs (reading y k))) 0 (length y)
+      (λ k a l. le-ltb readingLimit (natAbs (reading y k)) (near k (omega arith))) in
       eq-eqb (farReading y) (length y) (omega (arith, none))
 
 pub refusing : (j : Job) → Demand1Calls j

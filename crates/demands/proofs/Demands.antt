@@ -94,7 +94,8 @@ demand-2 s = record {
   solving-hands-back = λ words values deviations e. rw e;
   reading-hands-back = λ e. rw e;
   printed = λ e. ap (λ (v : Verdict). textUnder v s) e;
-  Q-in-full = λ e. q-in-full (headOf s) (blocksOf s) (readingsOf s) (job (headOf s) (blocksOf s) (readingsOf s) (setOf s) (sumOf s) (file-job s e .1) .measures);
+  Q-in-full = λ e. let h = headOf s in let d = blocksOf s in let y = readingsOf s in
+      q-in-full h d y (job h d y (setOf s) (sumOf s) (file-job s e .1) .measures);
 }
 
 pub demand-2-calls : (j : Job) → Demand2Calls j

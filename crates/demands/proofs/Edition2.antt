@@ -16,7 +16,6 @@ use Rattle.meaning.specs.File.{big, headOf, fieldVerdict, fields, readVerdict}
 use Rattle.meaning.specs.Text.{textUnder, textOf}
 use Rattle.meaning.specs.Edition2.{
   fileLimit2,
-  startAt,
   edition,
   fourOf,
   movedOn,
@@ -253,7 +252,6 @@ second-edition s = record {
   names = names-there s;
   each-name = name-there s;
   no-names = λ other. rw (ne-eqb (getD s (optionalAt s) 0) namesTag other) refl;
-  others-skipped = λ u e f same. ap (λ (v : Verdict). textUnder v (fourOf s)) e ∙ ap (textUnder accepted) same ∙ ap (λ (v : Verdict). textUnder v (fourOf u)) (sym f);
   first-edition-reader = λ e. first-reader s (edition-yes s e);
   by-its-edition-field = first-reader s;
   back-order = λ len. refl;

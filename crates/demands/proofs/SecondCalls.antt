@@ -9,7 +9,7 @@ use native.Mathlib.Omega.{arith}
 use native.Mathlib.Decide.{decLt}
 use borrow.Author.Tests.{le-leb, eqb-true, eq-eqb, ne-eqb}
 use lib.Dec.{eqb, leb}
-use lib.IntN.{ℤ}
+use lib.IntN.{ℤ, pos}
 use lib.ListN.{length, getD, take, drop, length-append, List·getD-append, List·getD-eq-default}
 use lib.Seq.{take-at, drop-at, take-length, getD-drop, drop-drop, drop-append-add}
 use Rattle.records.specs.declared.Head.{Head}
@@ -17,8 +17,23 @@ use Rattle.records.specs.declared.Verdict.{Verdict}
 use Rattle.records.specs.declared.Verdict.the-variants.{Accepted, Refused}
 use Rattle.meaning.specs.Design.{objects, sized, listLength, blocks, balanced}
 use Rattle.meaning.specs.Refusals.{accepted, refused, number, place, test, _⨾_, offender, farReading}
-use Rattle.meaning.specs.Calls.{slices, contents, jobVerdict, rooms}
-use Rattle.meaning.specs.File.{big, headOf, endAt, fieldVerdict, fields, placed, readVerdict}
+use Rattle.meaning.specs.Calls.{given, slices, contents, jobVerdict, rooms, solvedUnder}
+use Rattle.meaning.specs.File.{
+  big,
+  headOf,
+  endAt,
+  blocksAt,
+  readingsAt,
+  blocksOf,
+  setOf,
+  sumOf,
+  readingsOf,
+  fieldVerdict,
+  fields,
+  placed,
+  readVerdict,
+  noHead,
+}
 use Rattle.meaning.specs.Writing.{bytesOf, fileOf, fileLength, ReadsAs}
 use Rattle.meaning.specs.Text.{textUnder}
 use Rattle.meaning.specs.Edition2.{
@@ -36,7 +51,9 @@ use Rattle.meaning.specs.Edition2.{
   namesAt,
   fields2,
   readVerdict2,
+  readAnswer2,
   solveVerdict2,
+  solveAnswer2,
   textOf2,
   namesField,
   namesFit,
@@ -246,6 +263,26 @@ module _ (s : List ℕ) where
 
   -- ---- the calls
 
+  -- what is handed out hangs on the verdict and the four fields alone
+  skipped : (u : List ℕ) → readVerdict2 s ≡ readVerdict2 u → fourOf s ≡ fourOf u →
+      (readAnswer2 s .job ≡ readAnswer2 u .job)
+      × ((words : List ℕ) (values deviations : List ℤ) → solveAnswer2 s words values deviations ≡ solveAnswer2 u words values deviations)
+      × (textOf2 s ≡ textOf2 u)
+  unfolding solveVerdict2 textOf2
+  skipped u both same = (
+    λ i. record {
+      verdict = both i;
+      head = given (both i) (headOf (same i)) noHead;
+      «blocks_at» = given (both i) (4 + blocksAt) 0;
+      «readings_at» = given (both i) (4 + readingsAt (same i)) 0;
+      set = given (both i) (setOf (same i)) 0;
+      sum = given (both i) (sumOf (same i)) (pos 0);
+    },
+    λ words values deviations. λ i. let h = headOf (same i) in
+        solvedUnder (both i ⨾ rooms h (length words) (length values) (length deviations)) h (blocksOf (same i)) (readingsOf (same i)) (setOf (same i)),
+    λ i. textUnder (both i) (same i),
+  )
+
   pub second-calls : SecondCalls s
   unfolding solveVerdict2 textOf2
   second-calls = record {
@@ -272,6 +309,7 @@ module _ (s : List ℕ) where
     listing-writes = λ out e. let rest = drop (length (textOf2 s)) out in
         rw e (take-at (textOf2 s) rest (length (textOf2 s)) refl, drop-at (textOf2 s) rest (length (textOf2 s)) refl);
     listing-hands-back = λ len e. rw e;
+    others-skipped = λ u e f same. skipped u (e ∙ sym f) same;
   }
 
 -- ---- a job, written with names
@@ -446,7 +484,8 @@ module _ (j : Job) (names : List ℕ) where
   flat : (len : ℕ) → writeVerdict2 h d y w M names len ≡ four j ⨾ threeBlocks j ⨾ threeReadings j ⨾ namesFit h names
       ⨾ five j ⨾ six j ⨾ seven j ⨾ eleven j ⨾ eight j ⨾ ten len size
   unfolding writeVerdict2 slices contents
-  flat len = (λ i. four-out (four j ⨾ threeBlocks j ⨾ threeReadings j ⨾ namesFit h names) (five j) (six j) (seven j) (eleven j) (eight j) i ⨾ ten len (size-is i))
+  flat len = λ i.
+      four-out (four j ⨾ threeBlocks j ⨾ threeReadings j ⨾ namesFit h names) (five j) (six j) (seven j) (eleven j) (eight j) i ⨾ ten len (size-is i)
 
   -- the job is accepted
   write-job : (len : ℕ) → writeVerdict2 h d y w M names len ≡ accepted → verdictOf j ≡ accepted

@@ -95,7 +95,8 @@ module _ (h : Head) (d : List ℕ) (y : List ℤ) where
   pub q-in-full : Measured h d y → (wideText (spreadingOf h d y .q) ≡ 32 ∷ digits 39 (qOf h d y)) × (decimalFrom 0 (digits 39 (qOf h d y)) ≡ qOf h d y)
   q-in-full m =
       let l : qOf h d y < 2 ^ 120 = omega (arith, q-most h d (m .design) y (m .readings) (m .even)) in
-      (ap (λ (n : ℕ). 32 ∷ digits 39 n) (exact (qOf h d y) l refl), decimal-digits 38 (qOf h d y) (under (qOf h d y) (2 ^ 120) (10 ^ 39) l (ltb-true (2 ^ 120) (10 ^ 39) refl)))
+      let places = under (qOf h d y) (2 ^ 120) (10 ^ 39) l (ltb-true (2 ^ 120) (10 ^ 39) refl) in
+      (ap (λ (n : ℕ). 32 ∷ digits 39 n) (exact (qOf h d y) l refl), decimal-digits 38 (qOf h d y) places)
     where
       under : (a b c : ℕ) → a < b → b < c → a < c
       under a b c p q = omega arith

@@ -50,4 +50,5 @@ module _ (s : List ℕ) where
     -- and what the program prints
     pub printed : readVerdict s ≡ accepted → textOf s ≡ jobText h d y w M
     -- (Q in full decimal: its digits, after a space, read back as Q)
-    pub Q-in-full : readVerdict s ≡ accepted → (wideText (spreadingOf h d y .q) ≡ 32 ∷ digits 39 (qOf h d y)) × (decimalFrom 0 (digits 39 (qOf h d y)) ≡ qOf h d y)
+    pub Q-in-full : readVerdict s ≡ accepted →
+        (wideText (spreadingOf h d y .q) ≡ 32 ∷ digits 39 (qOf h d y)) × (decimalFrom 0 (digits 39 (qOf h d y)) ≡ qOf h d y)

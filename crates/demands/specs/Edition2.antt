@@ -119,12 +119,10 @@ module _ (s : List ℕ) where
     -- Tag 80 holds v names of eight bytes
     pub names : readVerdict2 s ≡ accepted → getD s (optionalAt s) 0 ≡ 128 →
         (namesAt s ≡ optionalAt s + 3) × (big s (optionalAt s + 1) 2 ≡ 8 * objectsIn s) × (namesAt s + 8 * objectsIn s ≤ length s)
-    -- (in object order: that of object i is eight bytes, from the eighth times i on; without the tag there are none, and 0 says so)
+    -- (in object order: that of object i is the eight bytes of the body from 8i on; without the tag there are none, and 0 says so)
     pub each-name : readVerdict2 s ≡ accepted → getD s (optionalAt s) 0 ≡ 128 → (i : ℕ) → i < objectsIn s →
         (length (nameOf s i) ≡ 8) × (namesAt s + 8 * i + 8 ≤ optionalAt s + 3 + big s (optionalAt s + 1) 2)
     pub no-names : (getD s (optionalAt s) 0 ≡ 128 → ⊥) → namesAt s ≡ 0
-    -- Other tags are kept and skipped: files with the same four fields get the same listing
-    pub others-skipped : (u : List ℕ) → readVerdict2 s ≡ accepted → readVerdict2 u ≡ accepted → fourOf s ≡ fourOf u → textOf2 s ≡ textOf2 u
     -- An edition 1 reader given a whole edition 2 file refuses with 2 at 0
     pub first-edition-reader : readVerdict2 s ≡ accepted → readVerdict s ≡ refused 2 0
     -- (its edition field alone is enough)

@@ -117,6 +117,11 @@ module _ (s : List ℕ) where
         (take (length (textOf2 s)) (listedAfter2 s out) ≡ textOf2 s) × (drop (length (textOf2 s)) (listedAfter2 s out) ≡ drop (length (textOf2 s)) out)
     pub listing-hands-back : (len : ℕ) →
         OnAcceptance (listedAnswer2 s len .verdict) (listedAnswer2 s len) (record { verdict = accepted; length = length (textOf2 s) })
+    -- (other tags are kept and skipped: accepted files with the same four fields are read, solved and listed alike)
+    pub others-skipped : (u : List ℕ) → readVerdict2 s ≡ accepted → readVerdict2 u ≡ accepted → fourOf s ≡ fourOf u →
+        (readAnswer2 s .job ≡ readAnswer2 u .job)
+        × ((words : List ℕ) (values deviations : List ℤ) → solveAnswer2 s words values deviations ≡ solveAnswer2 u words values deviations)
+        × (textOf2 s ≡ textOf2 u)
 
 -- ---- a job, written with names: `write_second`
 

@@ -75,7 +75,8 @@ module _ (j : Job) (e : verdictOf j ≡ accepted) where
     published-keeps = published-keeps h d y w M e;
     column-adds-up = job-adds-up h d y w M good;
     shortfall-at-least = shortfall-exact (objects h) w M (numeratorOf h d y w M) (denominatorOf h d w) some (restraint-kept h d y w M);
-    shortfall-below = shortfall-below (objects h) w M (numeratorOf h d y w M) (denominatorOf h d w) some (restraint-kept h d y w M) (job-members h d y w M good);
+    shortfall-below = shortfall-below (objects h) w M (numeratorOf h d y w M) (denominatorOf h d w) some
+        (restraint-kept h d y w M) (job-members h d y w M good);
     as-many-gain = as-many-gain (objects h) w M (numeratorOf h d y w M) (denominatorOf h d w) some (restraint-kept h d y w M) (job-members h d y w M good);
     members-near = λ i o. closer (numeratorOf h d y w M i) (published h d y w M i) (denominatorOf h d w) (job-member-near h d y w M good i o);
     others-near = λ i n. within (numeratorOf h d y w M i) (published h d y w M i) (denominatorOf h d w) (job-other-near h d y w M good i n);

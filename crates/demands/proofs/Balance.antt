@@ -79,7 +79,8 @@ module _ (j : Job) (well : WellFormedJob j) where
     λ e. (_, _, balanced-is (j .head) (j .initial) (job (j .head) (j .initial) (j .readings) (j .set) (j .sum) e .measures .even)),
     λ b. accepts in-slices (accepts (accepts (accepts (test-yes (blocksClean j) 5 _ (well .blocks-clean))
         (test-yes (balanced (j .head) (j .initial)) 6 0 (test-exactly j in-design b)))
-        (accepts (test-yes (restraintFits j) 7 0 (well .restraint-fits)) (test-yes (twoStandards j) 11 0 (well .two-standards)))) (test-yes (readingsFit j) 8 _ (well .readings-fit))),
+        (accepts (test-yes (restraintFits j) 7 0 (well .restraint-fits)) (test-yes (twoStandards j) 11 0 (well .two-standards))))
+        (test-yes (readingsFit j) 8 _ (well .readings-fit))),
   )
 
   pub job-unbalanced : (IsBalanced j → ⊥) → verdictOf j ≡ refused 6 0
@@ -123,4 +124,10 @@ pub file-well-formed : (s : List ℕ) → readVerdict s ≡ accepted → WellFor
 file-well-formed s e =
     let a = file-job s e in
     let w = job-well-formed (jobIn s) (a .1) in
-    record { in-order = a .0; blocks-clean = w .blocks-clean; restraint-fits = w .restraint-fits; two-standards = w .two-standards; readings-fit = w .readings-fit }
+    record {
+      in-order = a .0;
+      blocks-clean = w .blocks-clean;
+      restraint-fits = w .restraint-fits;
+      two-standards = w .two-standards;
+      readings-fit = w .readings-fit;
+    }

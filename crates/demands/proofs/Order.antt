@@ -114,7 +114,8 @@ module _ (s : List ℕ) where
   pub file-order : readVerdict s ≡ fileTests s
   unfolding readVerdict contents
   file-order =
-      contents-flat (fields s) s (blocksClean (jobIn s)) (balanced (headOf s) (blocksOf s)) (restraintFits (jobIn s)) (twoStandards (jobIn s)) (readingsFit (jobIn s))
+      contents-flat (fields s) s (blocksClean (jobIn s)) (balanced (headOf s) (blocksOf s))
+      (restraintFits (jobIn s)) (twoStandards (jobIn s)) (readingsFit (jobIn s))
       (offender (headOf s) (blocksOf s)) (farReading (readingsOf s))
       ∙ ap then fields-flat
 

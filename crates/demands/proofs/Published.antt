@@ -142,7 +142,8 @@ module _ (j : Job) (e : verdictOf j ≡ accepted) where
     published-keeps = published-keeps h d y w M e;
     column-adds-up = job-adds-up h d y w M good;
     shortfall-at-least = shortfall-exact (objects h) w M (numeratorOf h d y w M) (denominatorOf h d w) some (restraint-kept h d y w M);
-    shortfall-below = shortfall-below (objects h) w M (numeratorOf h d y w M) (denominatorOf h d w) some (restraint-kept h d y w M) (job-members h d y w M good);
+    shortfall-below = shortfall-below (objects h) w M (numeratorOf h d y w M) (denominatorOf h d w) some
+        (restraint-kept h d y w M) (job-members h d y w M good);
     as-many-gain = as-many-gain (objects h) w M (numeratorOf h d y w M) (denominatorOf h d w) some (restraint-kept h d y w M) (job-members h d y w M good);
     members-are = published-member h d y w M good;
     larger-part-first = λ i k p q l. served-first (objects h) w (partOf j) (shortfallOf j) i k (inl l);

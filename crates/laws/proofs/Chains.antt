@@ -20,7 +20,8 @@ use Rattle.records.specs.declared.Verdict.{Verdict}
 use Rattle.records.specs.declared.Verdict.the-variants.{Accepted, Refused}
 use Rattle.meaning.specs.Design.{objects, blocks, sized, listLength, balanced}
 use Rattle.meaning.specs.Analysis.{reading, members}
-use Rattle.meaning.specs.Refusals.{accepted, refused, test, _⨾_, offender, farReading, clean, inRestraint, standards, restraint, inReach, readingLimit, sumLimit}
+use Rattle.meaning.specs.Refusals.{accepted, refused, test, _⨾_, offender, farReading, clean}
+use Rattle.meaning.specs.Refusals.{inRestraint, standards, restraint, inReach, readingLimit, sumLimit}
 use Rattle.meaning.specs.Calls.{given, designVerdict, judgeVerdict, slices, contents, jobVerdict, readingsVerdict}
 use Rattle.laws.specs.Fits.{Fits}
 

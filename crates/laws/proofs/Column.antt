@@ -337,7 +337,8 @@ module _ (v w : ℕ) (M : ℤ) (a : ℕ → ℤ) (e : ℕ) (some : 0 < e) (keeps
   gains i = bit (ltb (rank v w parts i) (shortfall v w M a e))
 
   -- exactly that many members gain one
-  pub as-many-gain : 0 < members v w → sumℕ v (λ i. member w i * cond (ltb (rank v w (λ j. part (pos 100 *ℤ a j) e) i) (shortfall v w M a e)) 1 0) ≡ shortfall v w M a e
+  pub as-many-gain : 0 < members v w → sumℕ v (λ i. member w i * cond (ltb (rank v w (λ j. part (pos 100 *ℤ a j) e) i) (shortfall v w M a e)) 1 0)
+      ≡ shortfall v w M a e
   as-many-gain t = ranks-below v w parts (shortfall v w M a e) (omega (arith, shortfall-below t))
 
   -- so the members' hundredths add to exactly 100·M
@@ -400,7 +401,8 @@ module _ (v w : ℕ) (M : ℤ) (a : ℕ → ℤ) (e : ℕ) (some : 0 < e) (keeps
           ∙ abs-neg (pos e -ℤ pos (parts i)) ∙ ap natAbs (sym (pos-sub e (parts i) (omega arith)))))
           (omega (arith, gain-has-part i o))
       go (no o) = subst (λ (z : ℕ). z < e)
-          (sym (ap natAbs (ap (λ (g : ℕ). pos 100 *ℤ a i -ℤ (floors i +ℤ pos g) *ℤ pos e) (bit-no (rank v w parts i) (shortfall v w M a e) (omega arith)) ∙ apart 0
+          (sym (ap natAbs (ap (λ (g : ℕ). pos 100 *ℤ a i -ℤ (floors i +ℤ pos g) *ℤ pos e) (bit-no (rank v w parts i) (shortfall v w M a e) (omega arith))
+          ∙ apart 0
           ∙ ring₂ (λ p e. p ⊝ # 0 ⊗ e ≐ p) (pos (parts i)) (pos e) refl)))
           (part-less (pos 100 *ℤ a i) e some)
 

@@ -56,7 +56,8 @@ fn put_job(
     deviations: &[i64],
 ) -> usize
     requires { ⌜ length (now values) ≤ length (now hundredths) ⌝ }
-    ensures { λ r. ⌜ Wrote (now (out .entry)) at (jobLines solved (now (values .entry)) (now (hundredths .entry)) (now (deviations .entry))) (now (out .exit)) r ⌝ }
+    ensures { λ r. ⌜ Wrote (now (out .entry)) at (jobLines solved (now (values .entry)) (now (hundredths .entry))
+        (now (deviations .entry))) (now (out .exit)) r ⌝ }
 {
     let parameters = solved.parameters;
     let spreading = solved.spreading;
@@ -96,7 +97,8 @@ pub(crate) fn render(
     out: &mut [u8],
 ) -> Listed
     requires { ⌜ length (now values) ≤ length (now hundredths) ⌝ }
-    ensures { λ r. ⌜ r ≡ renderedAnswer (sheetText solved (now (values .entry)) (now (hundredths .entry)) (now (deviations .entry))) (length (now (out .entry))) ⌝ }
+    ensures { λ r. ⌜ r ≡ renderedAnswer (sheetText solved (now (values .entry)) (now (hundredths .entry)) (now (deviations .entry)))
+        (length (now (out .entry))) ⌝ }
     ensures { λ r. ⌜ now (out .exit) ≡ renderedAfter (sheetText solved (now (values .entry)) (now (hundredths .entry)) (now (deviations .entry)))
         (now (out .entry)) ⌝ }
 {

@@ -32,9 +32,12 @@ pub(crate) fn render_first(
     deviations: &[i64],
     out: &mut [u8],
 ) -> Listed
-    requires { ⌜ (solved .parameters .v ≤ length (now values)) × (solved .parameters .v ≤ length (now hundredths)) × (solved .parameters .b ≤ length (now deviations)) ⌝ }
-    ensures { λ r. ⌜ r ≡ renderedAnswer (sheetOf solved (now (values .entry)) (now (hundredths .entry)) (now (deviations .entry))) (length (now (out .entry))) ⌝ }
-    ensures { λ r. ⌜ now (out .exit) ≡ renderedAfter (sheetOf solved (now (values .entry)) (now (hundredths .entry)) (now (deviations .entry))) (now (out .entry)) ⌝ }
+    requires { ⌜ (solved .parameters .v ≤ length (now values)) × (solved .parameters .v ≤ length (now hundredths))
+        × (solved .parameters .b ≤ length (now deviations)) ⌝ }
+    ensures { λ r. ⌜ r ≡ renderedAnswer (sheetOf solved (now (values .entry)) (now (hundredths .entry)) (now (deviations .entry)))
+        (length (now (out .entry))) ⌝ }
+    ensures { λ r. ⌜ now (out .exit) ≡ renderedAfter (sheetOf solved (now (values .entry)) (now (hundredths .entry)) (now (deviations .entry)))
+        (now (out .entry)) ⌝ }
 {
     let v = solved.parameters.v as usize;
     let b = solved.parameters.b as usize;

@@ -161,7 +161,8 @@ module _ (s : List ℕ) where
 
   first-text2 : (values deviations : List ℤ) → length values ≡ 50 → 1300 ≤ length deviations → (v : Verdict) → readVerdict2 s ≡ v →
       sheetText (answer four v) (take (answer four v .parameters .v) (valuesLeft four v values))
-      (columnOf (valuesLeft four v values) (answer four v .denominator) (setOf four)) (take (answer four v .parameters .b) (deviationsLeft four v deviations)) ≡ textUnder v four
+      (columnOf (valuesLeft four v values) (answer four v .denominator) (setOf four))
+      (take (answer four v .parameters .b) (deviationsLeft four v deviations)) ≡ textUnder v four
   unfolding sheetText
   first-text2 values deviations lv ld Accepted e = first-text four values deviations lv ld Accepted (four-accepts Accepted e refl)
   first-text2 values deviations lv ld (Refused k place) e = refl

@@ -68,8 +68,12 @@ module _ (c : tie.After-hundredths-at Inv-loop μ-loop) where
 
 loop-again : tie.Need-loop-again Inv-loop μ-loop
 loop-again c =
-    let l = walk c .loop in
-    (omega arith, over-step (l .i) _ (replicate 50 (pos 0)) (l .inv .1) (read-back (c .hundredths-at .result) (c .hundredths-at .ok) ∙ is-this c) (omega arith), simp length-set (l .inv .2))
+    let l = walk c .loop in (
+      omega arith,
+      over-step (l .i) _ (replicate 50 (pos 0)) (l .inv .1) (read-back (c .hundredths-at .result) (c .hundredths-at .ok) ∙ is-this c)
+          (omega arith),
+      simp length-set (l .inv .2),
+    )
 
 pub column-spec : {M : Type 1} → statement M
 column-spec =

@@ -52,13 +52,15 @@ returns : tie.Need-returns
 returns c =
     let s = start (c .before) in
     more (c .before) .reads
-    ∙ gains (s .args .numerator) (s .args .denominator) (member (s .args .set) (s .args .object)) (s .args .own) (s .args .shared) (is-member (c .before)) (omega arith)
+    ∙ gains (s .args .numerator) (s .args .denominator) (member (s .args .set) (s .args .object)) (s .args .own) (s .args .shared)
+    (is-member (c .before)) (omega arith)
 
 returns-2 : tie.Need-returns-2
 returns-2 c =
     let s = start (c .before) in
     below (c .before) .reads
-    ∙ stays (s .args .numerator) (s .args .denominator) (member (s .args .set) (s .args .object)) (s .args .own) (s .args .shared) (is-member (c .before)) (omega arith)
+    ∙ stays (s .args .numerator) (s .args .denominator) (member (s .args .set) (s .args .object)) (s .args .own) (s .args .shared)
+    (is-member (c .before)) (omega arith)
 
 returns-3 : tie.Need-returns-3
 returns-3 c =

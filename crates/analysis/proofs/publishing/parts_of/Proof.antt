@@ -23,8 +23,12 @@ loop-again : tie.Need-loop-again Inv-loop μ-loop
 loop-again c =
     let l = c .before .before .before .loop in
     let a = c .before .before .before .before .args in
-    let part : c .hundredths-part .result ≡ partFrom (now (a .numerators)) (a .denominator) (l .i) = search (c .hundredths-part .ensures, needs) in
-    (omega arith, over-step (l .i) (partFrom (now (a .numerators)) (a .denominator)) (replicate 50 0) (l .inv .1) part (omega arith), simp length-set (l .inv .2))
+    let part : c .hundredths-part .result ≡ partFrom (now (a .numerators)) (a .denominator) (l .i) = search (c .hundredths-part .ensures, needs) in (
+      omega arith,
+      over-step (l .i) (partFrom (now (a .numerators)) (a .denominator)) (replicate 50 0) (l .inv .1)
+          part (omega arith),
+      simp length-set (l .inv .2),
+    )
 
 pub parts-of-spec : {M : Type 1} → statement M
 parts-of-spec =

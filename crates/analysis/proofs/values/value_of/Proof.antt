@@ -29,7 +29,8 @@ use Rattle.arithmetic.specs.Quotient.{valueFrom}
 use Rattle.analysis.specs.Worked.{factorIn}
 use Rattle.analysis.specs.Column.{columnOf}
 use Rattle.analysis.proofs.Column.{column-published}
-use Rattle.analysis.proofs.values.Refusing.{job-verdict, value-refused, value-no-object, value-job, no-value-is, value-is-given, ones-some, factor-is, value-from-is}
+use Rattle.analysis.proofs.values.Refusing.{job-verdict, value-refused, value-no-object, value-job, no-value-is, value-is-given}
+use Rattle.analysis.proofs.values.Refusing.{ones-some, factor-is, value-from-is}
 use Rattle.analysis.proofs.values.value_of.Statement.{statement}
 use Rattle.analysis.proofs.values.value_of.Tie as tie
 
@@ -85,7 +86,8 @@ module _ (c : tie.After-analyse) where
         ∙ given-yes (analyseVerdict head bytes ys (start .args .set) (start .args .sum) 2600 50 1300) (denominatorOf head bytes (start .args .set)) 0
         (rooms ∙ e)
 
-    filled-is : c .analyse .last .1 .1 .1 .1 .1 .1 .0 ≡ over (objects head) (numeratorOf head bytes ys (start .args .set) (start .args .sum)) (replicate 50 (pos 0))
+    filled-is : c .analyse .last .1 .1 .1 .1 .1 .1 .0 ≡ over (objects head) (numeratorOf head bytes ys (start .args .set) (start .args .sum))
+        (replicate 50 (pos 0))
     filled-is = (rw (toZ-ofZ (start .fits .sum)) at (c .analyse .ensures .1 .1 .0))
         ∙ given-yes (analyseVerdict head bytes ys (start .args .set) (start .args .sum) 2600 50 1300) _ _ (rooms ∙ e)
 

@@ -27,7 +27,8 @@ module _ (c : tie.After-solve-second) where
   abbrev values : List ℤ
   values = c .solve-second .last .1 .1 .0
 
-  fits : (c .solve-second .result .parameters .v ≤ length (c .solve-second .last .1 .1 .0)) × (c .solve-second .result .parameters .b ≤ length (c .solve-second .last .1 .1 .1 .0))
+  fits : (c .solve-second .result .parameters .v ≤ length (c .solve-second .last .1 .1 .0))
+      × (c .solve-second .result .parameters .b ≤ length (c .solve-second .last .1 .1 .1 .0))
   fits = solved-fits2 file (replicate 2600 0) (replicate 50 (pos 0)) (replicate 1300 (pos 0)) (omega arith) refl (omega arith)
       (c .solve-second .ensures .0) (c .solve-second .ensures .1 .1 .0) (c .solve-second .ensures .1 .1 .1)
 
@@ -54,7 +55,8 @@ module _ (c : tie.After-column) where
 
   long : length (c .column .result) ≡ 50
   long = ap (λ (l : List ℤ). length l) published
-      ∙ length-over 50 (hundredthsFrom (solved .solve-second .last .1 .1 .0) (solved .solve-second .result .denominator) (setOf (fourOf (file solved)))) (replicate 50 (pos 0))
+      ∙ length-over 50 (hundredthsFrom (solved .solve-second .last .1 .1 .0) (solved .solve-second .result .denominator) (setOf (fourOf (file solved))))
+      (replicate 50 (pos 0))
 
 returns : tie.Need-returns
 returns c =

@@ -14,7 +14,8 @@ use Rattle.listing.proofs.text.put_values.Statement.{statement}
 use Rattle.listing.proofs.text.put_values.Tie as tie
 
 abbrev Inv-loop : tie.InvT-loop
-Inv-loop out₀ at numerators hundredths denominator place₀ i₀ out place i = (i ≤ length numerators) × Wrote out₀ at (valueLines numerators hundredths denominator i) out place
+Inv-loop out₀ at numerators hundredths denominator place₀ i₀ out place i = (i ≤ length numerators) ×
+    Wrote out₀ at (valueLines numerators hundredths denominator i) out place
 
 abbrev μ-loop : tie.MeasureT-loop
 μ-loop out₀ at numerators hundredths denominator place₀ i₀ out place i = length numerators - i

@@ -12,6 +12,10 @@ render-first-spec =
     (tie.spec
     (λ c. sym (length-take-le _ (c .before .before .args .values .now) (omega arith)))
     (λ c. sym (length-take-le _ (c .before .before .before .args .deviations .now) (omega arith)))
-    (λ c κs. omega (arith, length-take-le _ (c .before .before .before .before .args .values .now) (c .before .before .before .before .pre .0), c .before .before .before .before .pre .1))
+    (λ c κs. omega (
+      arith,
+      length-take-le _ (c .before .before .before .before .args .values .now) (c .before .before .before .before .pre .0),
+      c .before .before .before .before .pre .1,
+    ))
     (λ c. search needs)
     (λ c. search needs))

@@ -4,12 +4,12 @@
  *
  *     number + 2^8 * index + 2^16 * place
  *
- * which BENCH_NUMBER, BENCH_INDEX and BENCH_PLACE take apart. The index is 0 in every call so far. A place that is the caller's
- * own number, as an object that does not exist, is handed back modulo 2^48.
+ * which BENCH_NUMBER, BENCH_INDEX and BENCH_PLACE take apart. The index is that of a job in bench_pool, and 0 in every other call. A place that is
+ * the caller's own number, as an object that does not exist, is handed back modulo 2^48.
  *
  * What is lent. A buffer is a pointer and its length in elements. The pointer is not NULL, also where the length is 0, and
  * buffers that a call writes overlap no other buffer of the call. Two kinds of buffer are written:
- *   rooms: `words`, `table`, `values`, `hundredths`, `deviations`, `out`;
+ *   rooms: `words`, `table`, `values`, `hundredths`, `deviations`, `out`, and `readings` of bench_practice;
  *   slots, after all other arguments: `signed_slots` for signed answers, `answer` for unsigned ones, `real` for doubles.
  *
  * What is written, and when. A call that accepts writes the first entries of its rooms and its own slots, listed below, from the
@@ -33,12 +33,20 @@
  *  12 | the edition is not 2                                              | that byte        | -
  *  13 | a file that is moved to the first edition has an optional field   | start of the     | -
  *     |                                                                   | first one        |
- * A call that takes no file looks, of what it takes, for 4, then 3, 5, 6, 7, 11, 8. A file is looked at field by field: 1 for the
+ *  14 | groups: g below 2 or g*v above 50; fewer than two groups, or they | -                | 0
+ *     | are not of one size of at least 2                                 |                  |
+ *  15 | the claims of a sheet are not one for each object                 | 0                | 0
+ *  16 | practice: a true value or the width is out of its range           | -                | 0
+ *  17 | a pooled job has another v or beta than job 0; its index beside   | -                | 0
+ *     | it                                                                |                  |
+ *  18 | no jobs to pool, more than 64, or lengths that do not add up      | -                | 0
+ * A call that takes no file looks, of what it takes, for 4, then 3, 5, 6, 16, 7, 11, 8. A file is looked at field by field: 1 for the
  * start, 2, 3, 1 for the body; 4 right after the first field; after the fourth 9; then 5, 6, 7, 11, 8. 10 comes last in every call. A file of the
  * second edition is first looked at for its length, 4 at 0, and its edition field, after whose own tests 12; in the place of 9 stand the
  * optional fields, for each 1, 2 (a tag below 80 hexadecimal or not above the one before), 3 (names not 8v bytes), 1. 13 comes after all
- * checks of reading and before 10. Development, tables, totals and sums of squares need no balance: no 6. Deviations, Q and spread take
- * no restraint: no 7, no 11.
+ * checks of reading and before 10. A sheet is looked at for 15 after all checks of its job. The calls on groups look for 4, 3, 14, 5, 6,
+ * then 10. Jobs that are pooled are looked at for 18, then each for the refusals of a file, then for 17. Development, tables, totals and
+ * sums of squares need no balance: no 6. Deviations, Q and spread take no restraint: no 7, no 11.
  *
  * Sizes: n from 3 to 50; flag 0 to 3; v at most 50; p at least 1, 2p at most v; m from 1 to 64; b = m*n at most 1,300; readings within
  * +-200,000,000; the accepted sum within +-1,000,000,000,000.
@@ -51,7 +59,10 @@
  * bench_spread 94 KB; bench_deviations and bench_analyse 83 KB; bench_read and bench_solve 68 KB; bench_company, bench_opposition,
  * bench_judge, bench_refusal and bench_write 62 KB; bench_total and bench_sum_of_squared_totals 22 KB; the others less than 1 KB. A
  * thread that makes any of them needs about 104 KB with what the thread itself takes. That is measured with the archive for x86-64,
+ * not proved; the calls on files of the second edition were not measured: each makes the call on its four fields, and adds little to what that takes;
+ * nor were bench_practice and bench_practice_file, which add rooms of 21 KB and of 26 KB to what bench_judge and bench_write take.
  * not proved; the calls on files of the second edition were not measured: each makes the call on its four fields, and adds little to what that takes.
+ * bench_pool was not measured either: it works each job out as bench_solve does, in rooms of its own of 32 KB.
  */
 #ifndef BENCH_H
 #define BENCH_H
@@ -134,7 +145,7 @@ enum {
     BENCH_SUM_SLOTS = 2
 };
 
-/* bench_field_at: `answer`. bench_read: `signed_slots`, then `answer`. bench_write and bench_listing: `answer`. */
+/* bench_field_at: `answer`. bench_read: `signed_slots`, then `answer`. bench_write, bench_practice_file and bench_listing: `answer`. */
 enum {
     BENCH_FIELD_BODY = 0, /* where the body starts */
     BENCH_FIELD_NEXT = 1, /* the byte after it */
@@ -177,6 +188,36 @@ uint64_t bench_opposition(size_t n, size_t flag, size_t p, size_t m, const uint8
 /* Judges whether a design is balanced. */
 uint64_t bench_judge(size_t n, size_t flag, size_t p, size_t m, const uint8_t *blocks, size_t blocks_length,
                      uint64_t *answer, size_t answer_length);
+
+/* ---- groups. `answer` of bench_grouped, and of bench_group_base after four others. */
+enum {
+    BENCH_GROUPED_L11 = 0, /* blocks in which two objects of one group share a side */
+    BENCH_GROUPED_L21 = 1, /* blocks in which they oppose */
+    BENCH_GROUPED_L12 = 2, /* blocks in which two objects of different groups share a side */
+    BENCH_GROUPED_L22 = 3, /* blocks in which they oppose */
+    BENCH_GROUPED_SLOTS = 4,
+    BENCH_GROUP_V = 0, /* objects of the grouped set: g times v */
+    BENCH_GROUP_B = 1, /* blocks */
+    BENCH_GROUP_R = 2, /* blocks in which an object stands */
+    BENCH_GROUP_P = 3, /* objects a side: g times p */
+    BENCH_GROUP_L11 = 4,
+    BENCH_GROUP_L21 = 5,
+    BENCH_GROUP_L12 = 6,
+    BENCH_GROUP_L22 = 7,
+    BENCH_GROUP_SLOTS = 8
+};
+
+/* Judges `count` blocks (1 to 1,300) of p objects a side over v objects (v at most 50, p at least 1, 2p at most v) with respect to groups. `blocks` has
+ * 2*p*count objects, p left and then p right ones for each block, each from 0 to v - 1; 255 is no object here. `groups` has v bytes, the group
+ * number of each object: any byte, only whether two are equal counts. Accepts exactly if the four counts are the same for all pairs of their kind.
+ * Refusals: 4, 3, 14, 5 at the index of the byte, 6, 10. */
+uint64_t bench_grouped(size_t count, size_t v, size_t p, const uint8_t *blocks, size_t blocks_length,
+                       const uint8_t *groups, size_t groups_length, uint64_t *answer, size_t answer_length);
+
+/* The grouped set of a balanced design: every object i becomes its g members, gi to gi + g - 1 (g at least 2, g*v at most 50). Writes 2b words of the
+ * grouped blocks: left word, right word, next block. Refusals: 4, 3, 14, 5, 6, 10. */
+uint64_t bench_group_base(size_t n, size_t flag, size_t p, size_t m, const uint8_t *blocks, size_t blocks_length,
+                          size_t g, uint64_t *words, size_t words_length, uint64_t *answer, size_t answer_length);
 
 /* ---- jobs: a design with its readings, b of them, all shifts of the first initial block, then of the second; and a restraint set,
  * of which bit i is object i, two objects at least, with its accepted sum. */
@@ -321,6 +362,55 @@ uint64_t bench_to_first(const uint8_t *bytes, size_t bytes_length,
 uint64_t bench_listing_second(const uint8_t *bytes, size_t bytes_length,
                               uint8_t *out, size_t out_length,
                               uint64_t *answer, size_t answer_length);
+
+/* ---- sheets of another laboratory: for each object of a job the hundredths of a count that are claimed for it, and a claimed spread: where `has_spread`
+ * is 0 the sheet claims that there is none, and the next two are not looked at; else the spread `spread` with `freedom` degrees of freedom.
+ * The refusals are those of reading the job, then 15 where the claims are not v, then 10 for the slots. A difference is an answer and no refusal. */
+
+/* Checks a sheet against the published hundredths and the spread of its job, given by its parts, as a file, and as a file of the second edition.
+ * `answer`: in BENCH_AGREES 1 where every claim is right, else 0; in BENCH_DIFFERS_AT the first object whose claim differs, v where only the spread does,
+ * 0 where the sheet agrees. A claimed spread is right where it equals the job's f64 as a number (no NaN does, -0.0 equals 0.0) with the same degrees of
+ * freedom; none is right only where the job has 0 degrees of freedom. */
+enum { BENCH_AGREES = 0, BENCH_DIFFERS_AT = 1, BENCH_CHECK_SLOTS = 2 };
+uint64_t bench_check_parts(size_t n, size_t flag, size_t p, size_t m, const uint8_t *blocks, size_t blocks_length,
+                           const int32_t *readings, size_t readings_length, uint64_t set, int64_t sum,
+                           const int64_t *claims, size_t claims_length, uint64_t has_spread, double spread, uint64_t freedom,
+                           uint64_t *answer, size_t answer_length);
+uint64_t bench_check_file(const uint8_t *bytes, size_t bytes_length,
+                          const int64_t *claims, size_t claims_length, uint64_t has_spread, double spread, uint64_t freedom,
+                          uint64_t *answer, size_t answer_length);
+uint64_t bench_check_second(const uint8_t *bytes, size_t bytes_length,
+                            const int64_t *claims, size_t claims_length, uint64_t has_spread, double spread, uint64_t freedom,
+                            uint64_t *answer, size_t answer_length);
+/* ---- practice: readings from weights whose values are known. `truths` has the true value of each object, v of them, within +-3,000 counts;
+ * `start` is any 32-bit number; `width` is from 0 to 8. Reading k is the left sum of the true values less the right sum, plus noise. A number
+ * x, at first `start`, is turned into 1664525*x + 1013904223 modulo 2^32 once per block, before it is used; the noise is its top `width` bits
+ * less half of their range, and 0 where `width` is 0. No reading is farther from 0 than 150,128. */
+
+/* The b practice readings: 4, 3 (blocks, then true values), 5, 6, 16, and 10 where there is no room for b readings. */
+uint64_t bench_practice(size_t n, size_t flag, size_t p, size_t m, const uint8_t *blocks, size_t blocks_length,
+                        const int32_t *truths, size_t truths_length, uint32_t start, size_t width,
+                        int32_t *readings, size_t readings_length);
+
+/* Writes the file of a practice job to the front of `out`, as bench_write does: those readings, the restraint set, and for the accepted sum
+ * the true sum over the set. 4, 3, 5, 6, 16, 7, 11, 10. With width 0 the exact values of the job are the true values. */
+uint64_t bench_practice_file(size_t n, size_t flag, size_t p, size_t m, const uint8_t *blocks, size_t blocks_length,
+                             const int32_t *truths, size_t truths_length, uint32_t start, size_t width, uint64_t set,
+                             uint8_t *out, size_t out_length,
+                             uint64_t *answer, size_t answer_length);
+/* ---- several jobs */
+
+/* The pooled spread of 1 to 64 files of the first edition, laid end to end in `bytes`; `lengths` has the length of each, and they add to
+ * bytes_length. All have v and beta of job 0; p may differ. `answer` and `real` are laid out as those of bench_spread: the sum of Q in two words, v*beta
+ * of job 0, the sum of f, the pooled hundredths by the rule of one job, whether there is a spread; the spread, 0.0 where the sum of f is 0. The
+ * order of the jobs makes no difference, and one job gives what bench_spread gives of it.
+ * Refused, in this order: 18, index 0, place 0, for no jobs, more than 64, or lengths that do not add to bytes_length; the first bad
+ * job's own number, its index in BENCH_INDEX and its place from its own start (a length of 0 is 1 at 0); 17, place 0, with the index of the first job
+ * whose v or beta differs from job 0's; 10, index 0, for too few slots. */
+enum { BENCH_POOL = 64 };
+uint64_t bench_pool(const uint8_t *bytes, size_t bytes_length, const size_t *lengths, size_t lengths_length,
+                    uint64_t *answer, size_t answer_length,
+                    double *real, size_t real_length);
 
 #ifdef __cplusplus
 }

@@ -3,9 +3,13 @@
 use crate::coefficients::Coefficients;
 use crate::compare::HEADS;
 use crate::design::{balance, develop, Balance, Block};
+use crate::groups::{self, Grouping};
 use crate::job::{self, first_far, first_unclean, is_one_standard, is_restraint, members, Cursor, Draft, Head, Job, Refusal, READING_LIMIT, SUM_LIMIT};
+use crate::pooled::Pool;
+use crate::practice::Practice;
 use crate::second::{self, Second};
 use crate::seed::Seed;
+use crate::sheet::Sheet;
 use crate::solve::{solve, Results};
 use std::cell::OnceCell;
 
@@ -39,6 +43,17 @@ pub struct Asked {
     /// a file of the second edition, and names
     pub second: Vec<u8>,
     pub names: Vec<u8>,
+    /// any blocks with groups, and how many members each object of the job is replaced by
+    pub grouping: Grouping,
+    pub size: usize,
+    /// what another laboratory claims
+    pub sheet: Sheet,
+    /// what practice readings are made from
+    pub practice: Practice,
+    /// several job files
+    pub pool: Pool,
+    /// a few words on the last of what is asked beside the job
+    pub aside: String,
     worked_out: WorkedOut,
 }
 
@@ -58,7 +73,28 @@ impl Asked {
         let head = Head { n: draft.n.into(), flag: draft.flag.into(), p: draft.p.into(), m: draft.m.into() };
         let Draft { objects, readings, restraint: set, sum, .. } = draft;
         let (number, place, tag, length, second, names) = (0, 0, 0, 0, vec![], vec![]);
-        Asked { about, head, objects, readings, set, sum, number, bytes, place, tag, length, second, names, worked_out: WorkedOut::default() }
+        Asked {
+            about,
+            head,
+            objects,
+            readings,
+            set,
+            sum,
+            number,
+            bytes,
+            place,
+            tag,
+            length,
+            second,
+            names,
+            grouping: Grouping::default(),
+            size: 0,
+            sheet: Sheet::default(),
+            practice: Practice::default(),
+            pool: Pool::default(),
+            aside: String::new(),
+            worked_out: WorkedOut::default(),
+        }
     }
 
     /// The developed blocks, of clean objects.
@@ -114,8 +150,12 @@ impl Asked {
 
     /// The file of the parts, which are those of a job that nothing refuses.
     pub fn written(&self) -> Vec<u8> {
+        self.draft().file()
+    }
+
+    pub fn draft(&self) -> Draft {
         let [n, flag, p, m] = [self.head.n, self.head.flag, self.head.p, self.head.m].map(|size| size as u8);
-        Draft { n, flag, p, m, objects: self.objects.clone(), restraint: self.set, sum: self.sum, readings: self.readings.clone() }.file()
+        Draft { n, flag, p, m, objects: self.objects.clone(), restraint: self.set, sum: self.sum, readings: self.readings.clone() }
     }
 }
 
@@ -126,11 +166,15 @@ pub enum Test {
     BlocksLength,
     ReadingsLength,
     NamesLength,
+    TruthsLength,
+    GroupSize,
     Objects,
     InitialBlock,
     Object,
     Block,
     Balance,
+    Truths,
+    Set,
     Restraint,
     Standards,
     Readings,
@@ -138,22 +182,36 @@ pub enum Test {
     File,
     Second,
     Optional,
+    ListSizes,
+    ListLength,
+    GroupsLength,
+    Groups,
+    ListObjects,
+    Counts,
+    PartsClaims,
+    FileClaims,
+    SecondClaims,
+    Pool,
 }
 
 /// What looks at an ask, and the refusal that it finds.
 type Look = fn(&Asked) -> Option<Refusal>;
 
 /// All tests in the order of the request, with the numbers that each refuses by; a call makes those of what it takes. 10, for short rooms, comes after all.
-pub const ORDER: [(Test, &[u8], Look); 16] = [
+pub const ORDER: &[(Test, &[u8], Look)] = &[
     (Test::Sizes, &[4], |asked| unless(asked.head.in_size(), 4, 0)),
     (Test::BlocksLength, &[3], |asked| unless(asked.objects.len() == 2 * asked.head.p * asked.head.m, 3, 0)),
     (Test::ReadingsLength, &[3], |asked| unless(asked.readings.len() == asked.head.blocks(), 3, 0)),
     (Test::NamesLength, &[3], |asked| unless(asked.names.is_empty() || asked.names.len() == 8 * asked.head.objects(), 3, 0)),
+    (Test::TruthsLength, &[3], |asked| unless(asked.practice.truths.len() == asked.head.objects(), 3, 0)),
+    (Test::GroupSize, &[14], |asked| unless(groups::fits(asked.size, asked.head.objects()), 14, 0)),
     (Test::Objects, &[5], |asked| at(5, first_unclean(&asked.head, &asked.objects))),
     (Test::InitialBlock, &[5], |asked| unless(asked.number < asked.head.m, 5, asked.number)),
     (Test::Object, &[5], |asked| unless(asked.number < asked.head.objects(), 5, asked.number)),
     (Test::Block, &[5], |asked| unless(asked.number < asked.head.blocks(), 5, asked.number)),
     (Test::Balance, &[6], |asked| unless(asked.balance().is_some(), 6, 0)),
+    (Test::Truths, &[16], |asked| unless(asked.practice.in_range(), 16, 0)),
+    (Test::Set, &[7], |asked| unless(is_restraint(&asked.head, &members(asked.set), 0), 7, 0)),
     (Test::Restraint, &[7], |asked| unless(asked.has_restraint(), 7, 0)),
     (Test::Standards, &[11], |asked| unless(asked.has_standards(), 11, 0)),
     (Test::Readings, &[8], |asked| at(8, first_far(&asked.wide_readings()))),
@@ -161,14 +219,29 @@ pub const ORDER: [(Test, &[u8], Look); 16] = [
     (Test::File, &[1, 2, 3, 4, 5, 6, 7, 8, 9, 11], |asked| asked.file().err()),
     (Test::Second, &[1, 2, 3, 4, 5, 6, 7, 8, 11, 12], |asked| asked.second_file().err()),
     (Test::Optional, &[13], |asked| second::to_first(&asked.second).err()),
+    (Test::ListSizes, &[4], |asked| unless(asked.grouping.in_size(), 4, 0)),
+    (Test::ListLength, &[3], |Asked { grouping, .. }| unless(grouping.objects.len() == 2 * grouping.p * grouping.count, 3, 0)),
+    (Test::GroupsLength, &[3], |Asked { grouping, .. }| unless(grouping.groups.len() == grouping.v, 3, 0)),
+    (Test::Groups, &[14], |asked| unless(asked.grouping.has_even_groups(), 14, 0)),
+    (Test::ListObjects, &[5], |asked| at(5, asked.grouping.first_stray())),
+    (Test::Counts, &[6], |asked| unless(asked.grouping.counts().is_some(), 6, 0)),
+    (Test::PartsClaims, &[15], |asked| claims(asked, asked.head.objects())),
+    (Test::FileClaims, &[15], |asked| claims(asked, asked.file().ok()?.job.head.objects())),
+    (Test::SecondClaims, &[15], |asked| claims(asked, asked.second_file().ok()?.0.job.head.objects())),
+    (Test::Pool, &[1, 2, 3, 4, 5, 6, 7, 8, 9, 11, 17, 18], |asked| asked.pool.pooled().err()),
 ];
+
+/// One claim for each object of the job.
+fn claims(asked: &Asked, objects: usize) -> Option<Refusal> {
+    unless(asked.sheet.claims.len() == objects, 15, 0)
+}
 
 fn unless(good: bool, number: u8, place: usize) -> Option<Refusal> {
     at(number, (!good).then_some(place))
 }
 
 fn at(number: u8, place: Option<usize>) -> Option<Refusal> {
-    place.map(|place| Refusal { number, place })
+    place.map(|place| Refusal { number, index: 0, place })
 }
 
 /// What is added to a size: it leaves the byte then, and its double, or its sum or product with another, wraps.

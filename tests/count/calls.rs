@@ -21,22 +21,28 @@ mod damage;
 mod design;
 mod field;
 mod editions;
+mod groups;
 mod job;
 mod listing;
 mod papers;
 mod parts;
+mod pooled;
+mod practice;
 mod publishing;
 mod second;
 mod seed;
+mod sheet;
 mod solve;
 mod stored;
 
 use asked::{at_bounds, harm, look_for_field, numbers, places, Asked, Solved, Test, ORDER};
 use design::{pairs, Balance, Block};
+use groups::{Counts, Grouping};
 use job::{Head, Refusal};
 use parts::parts_of;
+use pooled::Pooled;
 use seed::Seed;
-use solve::{nearest_even, totals_of, Results};
+use solve::{nearest_real, totals_of, Results};
 use std::collections::{BTreeMap, BTreeSet};
 use std::ffi::c_void;
 use std::process::ExitCode;
@@ -100,6 +106,30 @@ macro_rules! passed {
     ($name:ident $asked:ident $lent:ident [$($type:ty,)*] [$($value:expr,)*] $rooms:tt field $($rest:ident)*) => {
         passed!($name $asked $lent [$($type,)* usize, u8, usize,] [$($value,)* $asked.place, $asked.tag, $asked.length,] $rooms $($rest)*)
     };
+    ($name:ident $asked:ident $lent:ident [$($type:ty,)*] [$($value:expr,)*] $rooms:tt size $($rest:ident)*) => {
+        passed!($name $asked $lent [$($type,)* usize,] [$($value,)* $asked.size,] $rooms $($rest)*)
+    };
+    ($name:ident $asked:ident $lent:ident [$($type:ty,)*] [$($value:expr,)*] $rooms:tt grouping $($rest:ident)*) => {
+        passed!($name $asked $lent [$($type,)* usize, usize, usize, *const u8, usize, *const u8, usize,]
+            [$($value,)* $asked.grouping.count, $asked.grouping.v, $asked.grouping.p, $asked.grouping.objects.as_ptr(), $asked.grouping.objects.len(),
+                $asked.grouping.groups.as_ptr(), $asked.grouping.groups.len(),] $rooms $($rest)*)
+    };
+    ($name:ident $asked:ident $lent:ident [$($type:ty,)*] [$($value:expr,)*] $rooms:tt sheet $($rest:ident)*) => {
+        passed!($name $asked $lent [$($type,)* *const i64, usize, u64, f64, u64,]
+            [$($value,)* $asked.sheet.claims.as_ptr(), $asked.sheet.claims.len(), $asked.sheet.has_spread, $asked.sheet.spread, $asked.sheet.freedom,]
+            $rooms $($rest)*)
+    };
+    ($name:ident $asked:ident $lent:ident [$($type:ty,)*] [$($value:expr,)*] $rooms:tt practice $($rest:ident)*) => {
+        passed!($name $asked $lent [$($type,)* *const i32, usize, u32, usize,]
+            [$($value,)* $asked.practice.truths.as_ptr(), $asked.practice.truths.len(), $asked.practice.start, $asked.practice.width,] $rooms $($rest)*)
+    };
+    ($name:ident $asked:ident $lent:ident [$($type:ty,)*] [$($value:expr,)*] $rooms:tt set $($rest:ident)*) => {
+        passed!($name $asked $lent [$($type,)* u64,] [$($value,)* $asked.set,] $rooms $($rest)*)
+    };
+    ($name:ident $asked:ident $lent:ident [$($type:ty,)*] [$($value:expr,)*] $rooms:tt pool $($rest:ident)*) => {
+        passed!($name $asked $lent [$($type,)* *const u8, usize, *const usize, usize,]
+            [$($value,)* $asked.pool.bytes.as_ptr(), $asked.pool.bytes.len(), $asked.pool.lengths.as_ptr(), $asked.pool.lengths.len(),] $rooms $($rest)*)
+    };
     ($name:ident $asked:ident $lent:ident [$($type:ty,)*] [$($value:expr,)*] [$($room:ident)*]) => {{
         extern "C" {
             fn $name($(_: $type,)* $($room: *mut c_void, _: usize,)*) -> u64;
@@ -115,6 +145,8 @@ const DESIGN: &[Test] = &[Test::Sizes, Test::BlocksLength, Test::Objects];
 const READINGS: &[Test] = &[Test::ReadingsLength, Test::Readings];
 const RESTRAINT: &[Test] = &[Test::Restraint, Test::Standards];
 const BALANCE: &[Test] = &[Test::Balance];
+const PRACTICE: &[Test] = &[Test::TruthsLength, Test::Truths];
+const GROUPING: &[Test] = &[Test::ListSizes, Test::ListLength, Test::GroupsLength, Test::Groups, Test::ListObjects, Test::Counts];
 
 /// Every call, in the order of hosts/bench.h.
 const CALLS: &[Call] = &[
@@ -201,7 +233,61 @@ const CALLS: &[Call] = &[
     call!(bench_listing_second(second; out answer), [], |asked| {
         text(asked.second_file().map_or_else(listing::refused, |(file, results)| listing::accepted(&file.job, results)).into_bytes())
     }),
+    call!(bench_grouped(grouping; answer), [GROUPING], |asked| vec![whole(&four(asked.grouping.counts().expect("constant counts")))]),
+    call!(bench_group_base(head blocks size; words answer), [DESIGN, BALANCE, &[Test::GroupSize]], |asked| {
+        let grouping = Grouping::of(asked.blocks(), asked.head.objects(), asked.size);
+        let sizes = [grouping.v as i128, grouping.count as i128, grouping.appearances(0), grouping.p as i128];
+        let counts = theorem(&grouping, &asked.balance().expect("a balanced design"));
+        vec![front(grouping.sides().iter().map(word).collect()), whole(&[&sizes[..], &four(counts)].concat())]
+    }),
+    call!(
+        bench_check_parts(head blocks readings restraint sheet; answer),
+        [DESIGN, READINGS, BALANCE, RESTRAINT, &[Test::PartsClaims]],
+        |asked| checked(asked, &asked.solved().results)
+    ),
+    call!(bench_check_file(bytes sheet; answer), [&[Test::File, Test::FileClaims]], |asked| checked(asked, &accepted_file(asked).results)),
+    call!(bench_check_second(second sheet; answer), [&[Test::Second, Test::SecondClaims]], |asked| checked(asked, &accepted_second(asked).1)),
+    call!(bench_practice(head blocks practice; readings), [DESIGN, BALANCE, PRACTICE], |asked| vec![whole(&asked.practice.readings(asked.blocks()))]),
+    call!(
+        bench_practice_file(head blocks practice set; out answer),
+        [DESIGN, BALANCE, PRACTICE, &[Test::Set, Test::Standards]],
+        |asked| text(asked.practice.file(asked.draft(), asked.blocks()))
+    ),
+    call!(bench_pool(pool; answer real), [&[Test::Pool]], |asked| {
+        let Pooled { q, scale, freedom, spread } = asked.pool.pooled().expect("accepted jobs");
+        let rest = [scale, freedom, spread.unwrap_or(0), spread.is_some().into()];
+        vec![front([wide(q), whole(&rest).entries].concat()), real(spread.unwrap_or(0), 100)]
+    }),
 ];
+
+/// Whether the sheet agrees, and where it first differs.
+fn checked(asked: &Asked, results: &Results) -> Vec<Left> {
+    let differs = asked.sheet.differs(results);
+    vec![whole(&[differs.is_none().into(), differs.unwrap_or(0) as i128])]
+}
+
+/// The figures of what a call that checks a sheet takes, where nothing refuses it.
+fn figures_of<'a>(call: &Call, asked: &'a Asked) -> Option<&'a Results> {
+    let refused = call.refusal(asked).is_some_and(|(test, _)| ![Test::PartsClaims, Test::FileClaims, Test::SecondClaims].contains(&test));
+    match () {
+        _ if refused => None,
+        _ if call.makes(Test::PartsClaims) => Some(&asked.solved().results),
+        _ if call.makes(Test::FileClaims) => Some(&accepted_file(asked).results),
+        _ => Some(&accepted_second(asked).1),
+    }
+}
+
+/// The counts as they are handed back.
+fn four(Counts { within, between }: Counts) -> [i128; 4] {
+    [within.0, within.1, between.0, between.1]
+}
+
+/// The counts of the grouped set of a balanced design, which must be those of 004, theorem 5.1.
+fn theorem(grouping: &Grouping, balance: &Balance) -> Counts {
+    let counts = grouping.counts().expect("a grouped set that is partially balanced");
+    assert_eq!(counts, Counts { within: (balance.appearances, 0), between: (balance.company, balance.opposition) }, "theorem 5.1");
+    counts
+}
 
 fn accepted_second(asked: &Asked) -> &(second::Second, Results) {
     asked.second_file().expect("an accepted file")
@@ -228,23 +314,6 @@ fn real(top: i128, bottom: i128) -> Left {
 /// The f64s nearest to fractions.
 fn reals(fractions: &[(i128, i128)]) -> Left {
     front(fractions.iter().map(|(top, bottom)| nearest_real(*top, *bottom).to_bits()).collect())
-}
-
-/// The f64 nearest to top/bottom, found over whole numbers: 53 bits of the quotient, of two equally near ones the even one.
-fn nearest_real(top: i128, bottom: i128) -> f64 {
-    let (mut over, mut under, mut power) = (top.abs(), bottom, 0);
-    while over != 0 && over < under << 52 {
-        (over, power) = (over << 1, power - 1);
-    }
-    while over >= under << 53 {
-        (under, power) = (under << 1, power + 1);
-    }
-    let nearest = nearest_even(over, under) as f64 * 2f64.powi(power);
-    if top < 0 {
-        -nearest
-    } else {
-        nearest
-    }
 }
 
 fn word(objects: &BTreeSet<usize>) -> u64 {
@@ -316,7 +385,11 @@ const MARGIN: usize = 4;
 impl Room {
     /// A room in which no two entries are alike, and hardly one like an answer.
     fn untouched(name: &'static str, length: usize) -> Room {
-        let width = if name == "out" { 1 } else { 8 };
+        let width = match name {
+            "out" => 1,
+            "readings" => 4,
+            _ => 8,
+        };
         let words = 2 * MARGIN + (length * width).div_ceil(8);
         Room { name, width, length, memory: (1..=words as u64).map(|place| place.wrapping_mul(0x9E37_79B9_7F4A_7C15)).collect() }
     }
@@ -376,11 +449,11 @@ impl Call {
         }
         for lengths in kinds {
             let short = left.iter().zip(&lengths).any(|(room, length)| *length < room.asked);
-            let (number, test, place) = match refusal {
-                Some((test, Refusal { number, place })) => (number, Some(test), place),
-                None => (if short { 10 } else { 0 }, None, 0),
+            let (test, Refusal { number, index, place }) = match refusal {
+                Some((test, refusal)) => (Some(test), refusal),
+                None => (None, Refusal { number: if short { 10 } else { 0 }, index: 0, place: 0 }),
             };
-            let returned = u64::from(number) + ((place as u64) << 16);
+            let returned = u64::from(number) + ((index as u64) << 8) + ((place as u64) << 16);
             let found = self.difference(asked, &lengths, returned, if number == 0 { &left } else { &[] }, if spoiled { Some(seed) } else { None });
             if found.is_some() == spoiled {
                 *tally.alike.entry((number, test)).or_insert(0) += 1;
@@ -389,7 +462,8 @@ impl Call {
             tally.differing += 1;
             if tally.differing <= 3 {
                 let found = found.unwrap_or("a bit turned in what is expected is not seen".to_string());
-                println!("{}, {}, number {}, place {}, rooms of {lengths:?}: {found}", self.name, asked.about, asked.number, asked.place);
+                let (number, place, aside) = (asked.number, asked.place, &asked.aside);
+                println!("{}, {}, number {number}, place {place}, {aside}, rooms of {lengths:?}: {found}", self.name, asked.about);
             }
         }
     }
@@ -461,7 +535,7 @@ impl Call {
 }
 
 /// The calls that hosts/bench.h declares: each must have its row.
-fn declared() -> Vec<&'static str> {
+fn declared() -> BTreeSet<&'static str> {
     include_str!("../../hosts/bench.h").lines().filter_map(|line| line.strip_prefix("uint64_t ")?.split('(').next()).collect()
 }
 
@@ -489,6 +563,7 @@ fn jobs(seed: u64, count: u64) -> impl Iterator<Item = Asked> {
 /// All calls on one job.
 fn compare_all(asked: &mut Asked, seed: &mut Seed, spoiled: bool, tallies: &mut [Tally]) {
     for (call, tally) in CALLS.iter().zip(tallies) {
+        asked.aside.clear();
         if call.makes(Test::Field) {
             for place in places(asked) {
                 look_for_field(asked, place, seed);
@@ -498,6 +573,48 @@ fn compare_all(asked: &mut Asked, seed: &mut Seed, spoiled: bool, tallies: &mut 
             for number in numbers(asked, seed) {
                 asked.number = number;
                 call.compare(asked, true, seed, spoiled, tally);
+            }
+        } else if call.makes(Test::Groups) {
+            for _ in 0..3 {
+                asked.grouping = groups::seeded(seed);
+                asked.aside = asked.grouping.to_string();
+                let lent = asked.grouping.clone();
+                call.compare(asked, true, seed, spoiled, tally);
+                tally.differing += u64::from(lent != asked.grouping);
+            }
+        } else if call.makes(Test::GroupSize) {
+            for size in groups::sizes(asked.head.n.wrapping_add(asked.head.flag % 2), seed) {
+                asked.size = size;
+                asked.aside = format!("groups of {size}");
+                call.compare(asked, true, seed, spoiled, tally);
+            }
+        } else if call.makes(Test::Truths) {
+            for _ in 0..3 {
+                asked.practice = practice::seeded(asked.head.n.wrapping_add(asked.head.flag % 2), seed);
+                asked.aside = asked.practice.to_string();
+                let lent = asked.practice.clone();
+                call.compare(asked, true, seed, spoiled, tally);
+                tally.differing += u64::from(lent != asked.practice);
+            }
+        } else if call.makes(Test::Pool) {
+            for pool in pooled::pools(&asked.bytes, seed) {
+                asked.aside = pool.to_string();
+                asked.pool = pool;
+                let lent = (asked.pool.bytes.clone(), asked.pool.lengths.clone());
+                call.compare(asked, true, seed, spoiled, tally);
+                tally.differing += u64::from(lent.0 != asked.pool.bytes || lent.1 != asked.pool.lengths);
+            }
+        } else if [Test::PartsClaims, Test::FileClaims, Test::SecondClaims].iter().any(|test| call.makes(*test)) {
+            let figures = figures_of(call, asked);
+            let v = figures.map_or(asked.head.n, |results| results.hundredths.len());
+            let mut sheets = sheet::sheets(figures, v, seed);
+            sheets.extend(figures.filter(|_| v <= 8).iter().flat_map(|results| sheet::each_object(results)));
+            for sheet in sheets {
+                asked.aside = sheet.to_string();
+                asked.sheet = sheet;
+                let lent = asked.sheet.claims.clone();
+                call.compare(asked, true, seed, spoiled, tally);
+                tally.differing += u64::from(lent != asked.sheet.claims);
             }
         } else {
             call.compare(asked, false, seed, spoiled, tally);
@@ -530,7 +647,7 @@ fn main() -> ExitCode {
     }
     let passed = CALLS.iter().zip(&tallies).filter(|(call, tally)| call.told(tally)).count();
     let mut failed = CALLS.len() - passed;
-    let rows: Vec<&str> = CALLS.iter().map(|call| call.name).collect();
+    let rows: BTreeSet<&str> = CALLS.iter().map(|call| call.name).collect();
     if declared() != rows {
         failed += 1;
         println!("hosts/bench.h declares {:?}", declared());

@@ -11,15 +11,16 @@ pub const INFINITY: u8 = 255;
 pub const READING_LIMIT: i128 = 200_000_000;
 pub const SUM_LIMIT: i128 = 1_000_000_000_000;
 
-/// Number and place, as the listing prints them.
+/// Number and place, as the listing prints them; and of several jobs the index of the one that is refused, 0 everywhere else.
 #[derive(Clone, Copy, PartialEq, Eq, Debug)]
 pub struct Refusal {
     pub number: u8,
+    pub index: usize,
     pub place: usize,
 }
 
 pub fn refused<T>(number: u8, place: usize) -> Result<T, Refusal> {
-    Err(Refusal { number, place })
+    Err(Refusal { number, index: 0, place })
 }
 
 /// What the first field says.

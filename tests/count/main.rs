@@ -12,15 +12,21 @@ mod compare;
 mod damage;
 mod design;
 mod field;
+mod groups;
 mod job;
 mod listing;
 mod papers;
+mod parts;
+mod pooled;
+mod practice;
 mod publishing;
 mod second;
 mod seed;
 mod selftest;
+mod sheet;
 mod solve;
 mod stored;
+mod verbs;
 
 use std::io::{Read, Write};
 use std::path::Path;
@@ -31,6 +37,7 @@ count listing < FILE                    the listing of a job file
 count make FOLDER                       write the stored examples and trials below FOLDER
 count verify FOLDER                     fail where a stored file is not what make makes
 count compare PROGRAM.. -- SEED COUNT   run a program on COUNT seeded jobs and compare
+count verbs PROGRAM.. -- SEED COUNT     run the program's verbs on COUNT seeded files and compare
 count job SEED INDEX > FILE             the bytes of one of these jobs
 count lists                             the table of printed lists
 count selftest                          the figures of the request";
@@ -71,6 +78,14 @@ fn done(words: &[&str], arguments: &[String]) -> Result<(), Stop> {
         ["selftest"] => println!("{} figures as the request has them", selftest::selftest()),
         ["compare", program @ .., "--", seed, count] if !program.is_empty() => {
             compare_all(&arguments[1..1 + program.len()], number(seed)?, number(count)?)?
+        }
+        ["verbs", program @ .., "--", seed, count] if !program.is_empty() => {
+            let (seed, count) = (number(seed)?, number(count)?);
+            let failed = verbs::compare(&arguments[1..1 + program.len()], seed, count);
+            println!("{} passed, {failed} failed", count - failed);
+            if failed > 0 {
+                return Err(Stop::Found(String::new()));
+            }
         }
         _ => return Err(Stop::Asked(USAGE.to_string())),
     }

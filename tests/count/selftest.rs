@@ -6,13 +6,17 @@ use crate::compare;
 use crate::damage;
 use crate::design::{develop, pairs};
 use crate::field::{Field, SIZES};
+use crate::groups::{self, Counts, Grouping};
 use crate::job::{self, Head, Job, READING_LIMIT};
 use crate::listing::listing;
 use crate::papers::{self, LISTS, TABLE_1, TABLE_2_TOTALS};
+use crate::pooled::{self, Pool, Pooled};
+use crate::practice::{self, Practice};
 use crate::publishing::{features, published, Feature};
 use crate::second;
 use crate::seed::Seed;
-use crate::solve::{nearest_even, solve, totals, Fraction};
+use crate::sheet::{self, Sheet};
+use crate::solve::{nearest_even, nearest_real, solve, totals, Fraction};
 use crate::stored::{self, A};
 use std::collections::BTreeMap;
 
@@ -44,6 +48,10 @@ pub fn selftest() -> usize {
     variance_factors(&mut figures);
     designs(&mut figures);
     editions(&mut figures);
+    grouped_sets(&mut figures);
+    sheets(&mut figures);
+    practice(&mut figures);
+    pools(&mut figures);
     figures.0
 }
 
@@ -400,4 +408,230 @@ fn variance_factors(figures: &mut Figures) {
     }
     println!("variance factors of {objects} objects in {jobs} jobs: {often:?}");
     figures.same("kinds of restraints", often.values().all(|count| *count >= 5), true);
+}
+
+/// Grouped sets by hand: B by two and A by two and by ten; C, which meets as its groups say and comes from no design; and that seeded ones are of every kind.
+fn grouped_sets(figures: &mut Figures) {
+    let counts = |within: (i128, i128), between: (i128, i128)| Some(Counts { within, between });
+    let of = |name: &str, g: usize| Grouping::of(&accepted(name).blocks, accepted(name).head.objects(), g);
+    let b = of("B", 2);
+    figures.same("B by two", (b.count, b.v, b.p, b.appearances(5), b.groups.clone()), (3, 6, 2, 2, vec![0, 0, 1, 1, 2, 2]));
+    figures.same("B by two: its blocks", b.objects.clone(), vec![0, 1, 2, 3, 2, 3, 4, 5, 4, 5, 0, 1]);
+    figures.same("B by two: the last side", b.sides()[5].iter().copied().collect::<Vec<_>>(), vec![0, 1]);
+    figures.same("B by two: its counts", b.counts(), counts((2, 0), (0, 1)));
+    figures.same("A by two", of("A", 2).counts(), counts((4, 0), (1, 2)));
+    figures.same("A by ten, 50 objects", (of("A", 10).v, of("A", 10).p, of("A", 10).counts()), (50, 20, counts((4, 0), (1, 2))));
+    let fits = [(1, 5), (2, 25), (2, 26), (10, 5), (11, 5), (1 << 63, 4)].map(|(g, v)| groups::fits(g, v));
+    figures.same("g of 1, and 50 objects and more", fits, [false, true, false, true, false, false]);
+    let labelled = |grouping: &Grouping, groups: &[u8]| Grouping { groups: groups.to_vec(), ..grouping.clone() };
+    figures.same("B by two, the members numbered i + 3c", labelled(&b, &[0, 1, 2, 0, 1, 2]).counts(), None);
+    // {0},{1} modulo 4: 0 and 2 never meet, nor do 1 and 3
+    let c = Grouping { about: "C", count: 4, v: 4, p: 1, objects: vec![0, 1, 1, 2, 2, 3, 3, 0], groups: vec![7, 200, 7, 200] };
+    figures.same("C in opposite pairs", (c.has_even_groups(), c.counts()), (true, counts((0, 0), (0, 1))));
+    figures.same("C in other pairs", labelled(&c, &[1, 1, 2, 2]).counts(), None);
+    let all = Grouping { objects: [&c.objects[..], &[0, 2, 1, 3]].concat(), ..c.clone() };
+    figures.same("C with the blocks of 0 | 2 and 1 | 3", all.counts(), counts((0, 1), (0, 1)));
+    for (groups, even) in [(&[1, 1, 1, 1][..], false), (&[1, 1, 1, 2], false), (&[1, 2, 3, 4], false), (&[1, 2, 2, 1], true), (&[0, 255, 255, 0], true)] {
+        figures.same("groups of one size of at least 2", labelled(&c, groups).has_even_groups(), even);
+    }
+    for (byte, stray) in [(4, Some(3)), (255, Some(3)), (1, Some(3)), (2, None), (0, None)] {
+        let mut objects = c.objects.clone();
+        objects[3] = byte;
+        figures.same("an object in C", Grouping { objects, ..c.clone() }.first_stray(), stray);
+    }
+    let in_size = |(count, v, p): (usize, usize, usize)| Grouping { count, v, p, ..c.clone() }.in_size();
+    figures.same("sizes", [(1, 2, 1), (1300, 50, 25), (4, 5, 2)].map(in_size), [true; 3]);
+    let broken = [(0, 4, 1), (1301, 4, 1), (4, 51, 1), (4, 4, 0), (4, 4, 3), (4, 5, 3), (4, 4, 1 << 63)];
+    figures.same("broken sizes", broken.map(in_size), [false; 7]);
+    let mut seed = Seed::new(51, 0);
+    let asked: Vec<bool> = (3..=50).flat_map(|v| groups::sizes(v, &mut seed).into_iter().map(move |g| groups::fits(g, v))).collect();
+    figures.same("sizes of groups, too small, too large and neither", asked.iter().filter(|fits| **fits).count() * 8 > asked.len(), true);
+    let mut often: BTreeMap<&str, usize> = BTreeMap::new();
+    for grouping in (0..800).map(|_| groups::seeded(&mut seed)) {
+        let whole = grouping.in_size() && grouping.objects.len() == 2 * grouping.p * grouping.count && grouping.groups.len() == grouping.v;
+        let kind = match () {
+            _ if !whole => "broken",
+            _ if !grouping.has_even_groups() => "14",
+            _ if grouping.first_stray().is_some() => "5",
+            _ => match grouping.counts() {
+                None => "6",
+                Some(Counts { within: (_, 0), .. }) => "accepted, no opposition within groups",
+                Some(Counts { within: (0, _), between: (0, _) }) => "accepted, no company",
+                Some(_) => "accepted",
+            },
+        };
+        *often.entry(kind).or_insert(0) += 1;
+    }
+    println!("grouped sets: {often:?}");
+    figures.same("kinds of grouped sets", (often.len(), often.values().all(|count| *count >= 10)), (7, true));
+}
+
+/// Sheets of A, of E, which has no spread, and of a job whose spread is 0: right, and wrong in one place.
+fn sheets(figures: &mut Figures) {
+    let a = solve(&accepted("A"));
+    let right = Sheet { about: "A", claims: vec![-30, 730, 190, 50, 510], has_spread: 1, spread: 2.23, freedom: 1 };
+    let of_a = |change: &dyn Fn(&mut Sheet)| {
+        let mut sheet = right.clone();
+        change(&mut sheet);
+        sheet.differs(&a)
+    };
+    figures.same("A agrees", of_a(&|_| {}), None);
+    for object in 0..5 {
+        figures.same("A, a hundredth too high", of_a(&|sheet| sheet.claims[object] += 1), Some(object));
+        figures.same("A, a hundredth too low, and the last too", of_a(&|sheet| [object, 4].iter().for_each(|i| sheet.claims[*i] -= 1)), Some(object));
+    }
+    figures.same("A, an object below 0 with its sign turned", of_a(&|sheet| sheet.claims[0] = 30), Some(0));
+    figures.same("A, by 2 to the power 32", of_a(&|sheet| sheet.claims[3] += 1 << 32), Some(3));
+    figures.same("A, an object and the spread", of_a(&|sheet| (sheet.claims[4], sheet.has_spread) = (511, 0)), Some(4));
+    for spread in [2.24, 2.22, 2.229_999_999_999_999_7, 2.230_000_000_000_000_4, -2.23, 223.0, 0.0, f64::NAN, f64::INFINITY] {
+        figures.same("A, another spread", of_a(&|sheet| sheet.spread = spread), Some(5));
+    }
+    figures.same("A, degrees", [0, 2, 1 << 32 | 1].map(|freedom| of_a(&|sheet| sheet.freedom = freedom)), [Some(5); 3]);
+    figures.same("A, none", of_a(&|sheet| sheet.has_spread = 0), Some(5));
+    figures.same("A, a spread by any number but 0", of_a(&|sheet| sheet.has_spread = 7), None);
+    let (e, zero) = (solve(&accepted("E")), solve(&accepted("end-spread-0")));
+    let none = Sheet::right(&e);
+    figures.same("E has none", (none.has_spread, none.differs(&e)), (0, None));
+    figures.same("E, none beside any number", Sheet { spread: f64::NAN, freedom: 9, ..none.clone() }.differs(&e), None);
+    figures.same("E, a spread of 0", Sheet { has_spread: 1, ..none }.differs(&e), Some(8));
+    let still = Sheet::right(&zero);
+    figures.same("a spread of 0", (still.has_spread, still.spread.to_bits(), still.differs(&zero)), (1, 0, None));
+    figures.same("-0.0 is 0.0", Sheet { spread: -0.0, ..still.clone() }.differs(&zero), None);
+    figures.same("the least number above 0", Sheet { spread: f64::from_bits(1), ..still.clone() }.differs(&zero), Some(5));
+    figures.same("none for k 0", Sheet { has_spread: 0, ..still }.differs(&zero), Some(5));
+    for (k, wanted) in [(223, 2.23), (0, 0.0), (1, 0.01), (20_784_609_690, 207_846_096.9), (54_849, 548.49)] {
+        figures.same("a spread as a number", nearest_real(k, 100), wanted);
+    }
+    let each: Vec<Option<usize>> = sheet::each_object(&a).iter().map(|sheet| sheet.differs(&a)).collect();
+    figures.same("each object in turn", each, (0..10).map(|sheet| Some(sheet / 2)).collect());
+    // every way to be wrong differs somewhere, on some job that has a spread
+    let mut seed = Seed::new(52, 0);
+    let results: Vec<_> = ["A", "D", "F", "H", "J", "L"].map(|name| solve(&accepted(name))).into_iter().collect();
+    for (about, wrong) in sheet::WRONG {
+        let differs = results.iter().any(|results| {
+            let mut sheet = Sheet::right(results);
+            wrong(&mut sheet, &mut seed);
+            sheet.claims.len() != results.hundredths.len() || sheet.differs(results).is_some()
+        });
+        figures.same(about, differs, about != "a spread by another number than 1");
+    }
+    let mut sheets = |results| sheet::sheets(results, 5, &mut seed).len();
+    figures.same("nine sheets for a job, one for a refused one", [sheets(Some(&a)), sheets(None)], [9, 1]);
+}
+
+/// The generator from 0, its noise by hand; practice readings of A from 1, 2, 3, 4 and 5, whose left sums less right sums are 0, -5, 0, 5 and 0; the ranges.
+fn practice(figures: &mut Figures) {
+    let of = |truths: &[i32], start: u32, width: usize| Practice { truths: truths.to_vec(), start, width };
+    let numbers: Vec<i128> = of(&[], 0, 0).numbers().take(6).collect();
+    figures.same("from 0", numbers.clone(), vec![0x3C6E_F35F, 0x4750_2932, 0xD1CC_F6E9, 0xAAF9_5334, 0x6252_E503, 0x9F2E_C686]);
+    figures.same("from the last number", of(&[], u32::MAX, 0).numbers().next(), Some(1_013_904_223 - 1_664_525));
+    figures.same("from the fourth number", of(&[], 2_868_466_484, 0).numbers().next(), Some(1_649_599_747));
+    let noise = |width: usize| numbers.iter().map(|number| of(&[], 0, width).noise(*number)).collect::<Vec<_>>();
+    figures.same("width 8", noise(8), vec![0x3C - 128, 0x47 - 128, 0xD1 - 128, 0xAA - 128, 0x62 - 128, 0x9F - 128]);
+    figures.same("width 4", noise(4), vec![3 - 8, 4 - 8, 13 - 8, 10 - 8, 6 - 8, 9 - 8]);
+    figures.same("width 1", noise(1), vec![-1, -1, 0, 0, -1, 0]);
+    figures.same("width 0", noise(0), vec![0; 6]);
+    let a = accepted("A");
+    let truths = [1, 2, 3, 4, 5];
+    figures.same("A without noise", of(&truths, 77, 0).readings(&a.blocks), vec![0, -5, 0, 5, 0]);
+    figures.same("A from 0, width 8", of(&truths, 0, 8).readings(&a.blocks), vec![-68, -62, 81, 47, -30]);
+    let design = job::Draft { n: 5, flag: 0, p: 2, m: 1, objects: vec![1, 4, 2, 3], restraint: 3, sum: 0, readings: vec![] };
+    let file = of(&truths, 9, 0).file(design.clone(), &a.blocks);
+    figures.same("A without noise as a file", (file.len(), file[32], &file[36..44]), (56, 3, &[0, 0, 0, 0, 255, 255, 255, 251][..]));
+    let published: Vec<i128> = solve(&job::read(&file).expect("a job")).hundredths;
+    figures.same("A without noise: the true values", published, vec![100, 200, 300, 400, 500]);
+    let wide: Vec<i32> = (0..26).map(|object| if object < 13 { 3_000 } else { -3_000 }).collect();
+    let farthest = of(&wide, 1, 8).readings(&accepted("end-longest").blocks).iter().map(|reading| reading.abs()).max();
+    figures.same("the farthest of 26 objects", farthest.is_some_and(|farthest| farthest <= 26 * 3_000 + 128), true);
+    let ranges = [(3_000, 8), (-3_000, 0), (3_001, 0), (-3_001, 8), (0, 9), (i32::MIN, 1), (0, usize::MAX)];
+    figures.same("ranges", ranges.map(|(truth, width)| of(&[0, truth], 0, width).in_range()), [true, true, false, false, false, false, false]);
+    let mut seed = Seed::new(53, 0);
+    let asked: Vec<Practice> = (0..200).map(|_| practice::seeded(5, &mut seed)).collect();
+    let whole = |practice: &&Practice| practice.truths.len() == 5 && practice.in_range();
+    let accepted = asked.iter().filter(whole).count();
+    let often = [accepted, 200 - accepted, asked.iter().filter(whole).filter(|practice| practice.width == 0).count()];
+    println!("practice: {often:?} right, wrong, right without noise");
+    figures.same("kinds of practice", often.iter().all(|count| *count >= 20), true);
+}
+
+/// Pools by hand: one job and that job again, H twice, jobs with no degree of freedom, sums past a word; each refusal with its index; and the order of jobs.
+fn pools(figures: &mut Figures) {
+    let of = |files: &[Vec<u8>]| Pool::of("by hand", files).pooled();
+    let refused = |pool: Pool| pool.pooled().err().map(|refusal| (refusal.number, refusal.index, refusal.place));
+    let [a, b, e, h] = ["A", "B", "E", "H"].map(bytes_of);
+    let wanted = |q: i128, scale: i128, freedom: i128, k: i128| Ok(Pooled { q, scale, freedom, spread: Some(k) });
+    figures.same("A alone", of(&[a.clone()]), wanted(25, 5, 1, 223));
+    figures.same("A twice", of(&[a.clone(), a.clone()]), wanted(50, 5, 2, 223));
+    figures.same("A 64 times", of(&vec![a.clone(); 64]), wanted(1600, 5, 64, 223));
+    let mut still = a.clone();
+    still[36..].fill(0);
+    figures.same("A and A with readings of 0", of(&[a.clone(), still.clone()]), wanted(25, 5, 2, 158));
+    figures.same("the same in another order", of(&[still.clone(), a.clone()]), wanted(25, 5, 2, 158));
+    figures.same("readings of 0", of(&[still]), wanted(0, 5, 1, 0));
+    figures.same("H twice", of(&[h.clone(), h]), wanted(126_355_108, 14, 30, 54_849));
+    figures.same("E twice", of(&[e.clone(), e.clone()]), Ok(Pooled { q: 0, scale: 8, freedom: 0, spread: None }));
+    let pairs = |n, flag, copies| {
+        let design = balanced::all_pairs(n, flag, copies);
+        let readings = vec![1; design.m() * usize::from(n)];
+        job::Draft { n, flag, p: 1, m: design.m() as u8, objects: design.objects, restraint: 3, sum: 0, readings }.file()
+    };
+    // every two of eight objects opposed: v and beta are those of E, four a side; 28 blocks
+    figures.same("E and 28 pairs: another p, another f", of(&[e.clone(), pairs(7, 1, 1)]).map(|pooled| (pooled.scale, pooled.freedom)), Ok((8, 21)));
+    figures.same("A, E", refused(Pool::of("", &[a.clone(), e.clone()])), Some((17, 1, 0)));
+    figures.same("pairs of five objects once and twice", refused(Pool::of("", &[pairs(5, 0, 1), pairs(5, 0, 1), pairs(5, 0, 2)])), Some((17, 2, 0)));
+    figures.same("A, E cut: E's own first", refused(Pool::of("", &[a.clone(), b.clone(), e[..9].to_vec()])), Some((1, 2, 7)));
+    figures.same("A, nothing", refused(Pool::of("", &[a.clone(), vec![]])), Some((1, 1, 0)));
+    figures.same("nothing, A", refused(Pool::of("", &[vec![], a.clone()])), Some((1, 0, 0)));
+    figures.same("A, A and a byte", refused(Pool::of("", &[a.clone(), [&a[..], &[7]].concat()])), Some((9, 1, 56)));
+    for (about, lengths) in [
+        ("no jobs", vec![]),
+        ("a byte too few", vec![56, 55]),
+        ("a byte too many", vec![56, 57]),
+        ("one length", vec![56]),
+        ("lengths that wrap", vec![56 + (1 << 63), 56 + (1 << 63)]),
+        ("lengths that wrap at 32 bits", vec![56 + (1 << 32), 56]),
+        ("one below 0", vec![113, usize::MAX]),
+        ("65 jobs", vec![1; 65]),
+    ] {
+        figures.same(about, refused(Pool::new("", a.repeat(2), lengths)), Some((18, 0, 0)));
+    }
+    figures.same("65 times A", refused(Pool::of("", &vec![a.clone(); 65])), Some((18, 0, 0)));
+    figures.same("nothing at all", refused(Pool::new("", vec![], vec![])), Some((18, 0, 0)));
+    figures.same("64 of nothing", refused(Pool::new("", vec![], vec![0; 64])), Some((1, 0, 0)));
+    let [below, above] = ["end-q-below-a-word", "end-q-above-a-word"].map(|name| solve(&accepted(name)).q);
+    let sum = of(&["end-q-below-a-word", "end-q-below-a-word", "end-q-above-a-word"].map(bytes_of)).map(|pooled| pooled.q);
+    figures.same("sums past a word", sum, Ok(2 * below + above));
+    let largest = Pool::of("", &vec![bytes_of("end-largest-q"); 64]).pooled().map(|pooled| (pooled.q, pooled.freedom));
+    figures.same("64 times the largest Q", largest, Ok((64 * 70_304_000_000_000_000_000_000, 64 * 1275)));
+    // the order of accepted jobs makes no difference; and seeded pools are of every kind
+    let mut seed = Seed::new(54, 0);
+    figures.same("pools beside a file", pooled::pools(&a, &mut seed)[0].pooled(), wanted(25, 5, 1, 223));
+    let mut often: BTreeMap<&str, usize> = BTreeMap::new();
+    for pool in (0..400).map(|_| pooled::seeded(&mut seed)) {
+        let kind = match pool.pooled() {
+            Ok(Pooled { spread: None, .. }) => "none",
+            Ok(_) if pool.lengths.len() == 64 => "64 jobs",
+            Ok(_) => "accepted",
+            Err(refusal) => match refusal.number {
+                17 => "17",
+                18 => "18",
+                _ if refusal.index > 0 => "a later job's own",
+                _ => "the first job's own",
+            },
+        };
+        *often.entry(kind).or_insert(0) += 1;
+        if let (Ok(found), true) = (pool.pooled(), pool.lengths.len() < 9) {
+            let mut rest = &pool.bytes[..];
+            let mut files: Vec<Vec<u8>> = Vec::new();
+            for length in &pool.lengths {
+                let (file, after) = rest.split_at(*length);
+                files.push(file.to_vec());
+                rest = after;
+            }
+            files.rotate_left(1);
+            figures.same("another order", of(&files), Ok(found));
+        }
+    }
+    println!("pools: {often:?}");
+    figures.same("kinds of pools", (often.len(), often.values().all(|count| *count >= 5)), (7, true));
 }

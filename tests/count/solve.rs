@@ -248,6 +248,23 @@ pub fn nearest_even(top: i128, bottom: i128) -> i128 {
     }
 }
 
+/// The f64 nearest to top/bottom, found over whole numbers: 53 bits of the quotient, of two equally near ones the even one.
+pub fn nearest_real(top: i128, bottom: i128) -> f64 {
+    let (mut over, mut under, mut power) = (top.abs(), bottom, 0);
+    while over != 0 && over < under << 52 {
+        (over, power) = (over << 1, power - 1);
+    }
+    while over >= under << 53 {
+        (under, power) = (under << 1, power + 1);
+    }
+    let nearest = nearest_even(over, under) as f64 * 2f64.powi(power);
+    if top < 0 {
+        -nearest
+    } else {
+        nearest
+    }
+}
+
 /// The largest whole k whose square, times the degrees of freedom, is at most 10,000 sums of squares: searched decimal by decimal.
 pub fn spread(sum_of_squares: Fraction, freedom: i128) -> i128 {
     let limit = times(10_000, sum_of_squares.top);

@@ -80,7 +80,7 @@ fn compared(draft: &Draft) -> Result<String, String> {
             }
             Ok("written".to_string())
         }
-        Some(Refusal { number, place }) => {
+        Some(Refusal { number, place, .. }) => {
             // the room is looked at last: with none at all the refusal is the same
             for room in [7000, 0] {
                 same(&format!("a refused job, room for {room} bytes"), written(draft, room), (Err((number, place as u64)), vec![UNTOUCHED; room]))?;
@@ -117,12 +117,12 @@ fn same(about: &str, found: Written, wanted: Written) -> Result<(), String> {
 /// What a call that takes the parts themselves says of them: the refusal of their file, at the index of the object or of the reading, else at 0.
 /// The file of a draft has its four fields and nothing after them, so it is never refused by 1, 2 or 9.
 fn refusal(draft: &Draft) -> Option<Refusal> {
-    let Refusal { number, place } = job::read(&draft.file()).err()?;
+    let Refusal { number, place, .. } = job::read(&draft.file()).err()?;
     assert!(![1, 2, 9].contains(&number), "a draft's file is whole");
     let place = match number {
         5 => place - 10,
         8 => (place - 32 - draft.objects.len()) / 4,
         _ => 0,
     };
-    Some(Refusal { number, place })
+    Some(Refusal { number, index: 0, place })
 }

@@ -150,3 +150,14 @@ module _ (p : ℕ → Bool) where
       go true e m ih d = let o : j < i = rw e at m in absurd (omega arith)
       go false e m ih (yes q) = ap p (sym q) ∙ e
       go false e m ih (no q) = ih (omega arith) (rw e at m)
+
+  -- at a number that is found the test holds
+  pub first-holds : (i c : ℕ) → firstFrom p i c < i + c → p (firstFrom p i c) ≡ true
+  unfolding firstFrom
+  first-holds i zero l = absurd (omega arith)
+  first-holds i (suc c) l = go (p i) refl l (first-holds (suc i) c)
+    where
+      go : (b : Bool) → p i ≡ b → firstFrom p i (suc c) < i + suc c → (firstFrom p (suc i) c < suc i + c → p (firstFrom p (suc i) c) ≡ true) →
+          p (firstFrom p i (suc c)) ≡ true
+      go true e l ih = rw e e
+      go false e l ih = let m : firstFrom p (suc i) c < i + suc c = rw e at l in rw e (ih (omega arith))

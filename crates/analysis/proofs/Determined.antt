@@ -19,6 +19,9 @@ use Rattle.analysis.proofs.publishing.published.Reads as published-read
 use Rattle.analysis.proofs.publishing.column as column
 use Rattle.analysis.proofs.publishing.column.Kinds as column-kinds
 use Rattle.analysis.proofs.publishing.column.Reads as column-reads
+use Rattle.analysis.proofs.sheet.check_sheet as check-sheet
+use Rattle.analysis.proofs.sheet.check_sheet.Kinds as check-sheet-kinds
+use Rattle.analysis.proofs.sheet.check_sheet.Reads as check-sheet-reads
 use Rattle.analysis.proofs.spread.q as q
 use Rattle.analysis.proofs.spread.q.Kinds as q-kinds
 use Rattle.analysis.proofs.spread.q.Reads as q-reads
@@ -64,6 +67,13 @@ module _ (κs : Lfts 1) (a : ArgsD column.signature κs) (r q : ResD column.sign
   pub column-determined : column-reads.Post κs a r s → column-reads.Post κs a q t →
       r ≡ q
   column-determined p e = p ∙ sym e
+
+-- `check_sheet`: the answer
+module _ (κs : Lfts 3) (a : ArgsD check-sheet.signature κs) (r q : ResD check-sheet.signature κs)
+    (s t : AtExit (endedOf 3 check-sheet-kinds.ps check-sheet-kinds.r) κs) where
+  pub check-sheet-determined : check-sheet-reads.Post κs a r s → check-sheet-reads.Post κs a q t →
+      r ≡ q
+  check-sheet-determined p e = p ∙ sym e
 
 -- `q`: the answer
 module _ (κs : Lfts 2) (a : ArgsD q.signature κs) (r q : ResD q.signature κs)

@@ -52,6 +52,12 @@ use Rattle.api.proofs.files.bench_write.Reads as bench-write-reads
 use Rattle.api.proofs.files.bench_listing as bench-listing
 use Rattle.api.proofs.files.bench_listing.Kinds as bench-listing-kinds
 use Rattle.api.proofs.files.bench_listing.Reads as bench-listing-reads
+use Rattle.api.proofs.grouped_sets.bench_grouped as bench-grouped
+use Rattle.api.proofs.grouped_sets.bench_grouped.Kinds as bench-grouped-kinds
+use Rattle.api.proofs.grouped_sets.bench_grouped.Reads as bench-grouped-reads
+use Rattle.api.proofs.grouped_sets.bench_group_base as bench-group-base
+use Rattle.api.proofs.grouped_sets.bench_group_base.Kinds as bench-group-base-kinds
+use Rattle.api.proofs.grouped_sets.bench_group_base.Reads as bench-group-base-reads
 use Rattle.api.proofs.jobs.bench_refusal as bench-refusal
 use Rattle.api.proofs.jobs.bench_refusal.Kinds as bench-refusal-kinds
 use Rattle.api.proofs.jobs.bench_refusal.Reads as bench-refusal-reads
@@ -67,6 +73,15 @@ use Rattle.api.proofs.jobs.bench_published.Reads as bench-published-rea
 use Rattle.api.proofs.jobs.bench_analyse as bench-analyse
 use Rattle.api.proofs.jobs.bench_analyse.Kinds as bench-analyse-kinds
 use Rattle.api.proofs.jobs.bench_analyse.Reads as bench-analyse-reads
+use Rattle.api.proofs.pools.bench_pool as bench-pool
+use Rattle.api.proofs.pools.bench_pool.Kinds as bench-pool-kinds
+use Rattle.api.proofs.pools.bench_pool.Reads as bench-pool-reads
+use Rattle.api.proofs.practising.bench_practice as bench-practice
+use Rattle.api.proofs.practising.bench_practice.Kinds as bench-practice-kinds
+use Rattle.api.proofs.practising.bench_practice.Reads as bench-practice-reads
+use Rattle.api.proofs.practising.bench_practice_file as bench-practice-file
+use Rattle.api.proofs.practising.bench_practice_file.Kinds as bench-practice-file-kinds
+use Rattle.api.proofs.practising.bench_practice_file.Reads as bench-practice-file-reads
 use Rattle.api.proofs.second.bench_read_second as bench-read-second
 use Rattle.api.proofs.second.bench_read_second.Kinds as bench-read-second-kinds
 use Rattle.api.proofs.second.bench_read_second.Reads as bench-read-second-reads
@@ -85,6 +100,15 @@ use Rattle.api.proofs.second.bench_to_first.Reads as bench-to-first-rea
 use Rattle.api.proofs.second.bench_listing_second as bench-listing-second
 use Rattle.api.proofs.second.bench_listing_second.Kinds as bench-listing-second-kinds
 use Rattle.api.proofs.second.bench_listing_second.Reads as bench-listing-second-reads
+use Rattle.api.proofs.sheets.bench_check_parts as bench-check-parts
+use Rattle.api.proofs.sheets.bench_check_parts.Kinds as bench-check-parts-kinds
+use Rattle.api.proofs.sheets.bench_check_parts.Reads as bench-check-parts-reads
+use Rattle.api.proofs.sheets.bench_check_file as bench-check-file
+use Rattle.api.proofs.sheets.bench_check_file.Kinds as bench-check-file-kinds
+use Rattle.api.proofs.sheets.bench_check_file.Reads as bench-check-file-reads
+use Rattle.api.proofs.sheets.bench_check_second as bench-check-second
+use Rattle.api.proofs.sheets.bench_check_second.Kinds as bench-check-second-kinds
+use Rattle.api.proofs.sheets.bench_check_second.Reads as bench-check-second-reads
 use Rattle.api.proofs.totals.bench_total as bench-total
 use Rattle.api.proofs.totals.bench_total.Kinds as bench-total-kinds
 use Rattle.api.proofs.totals.bench_total.Reads as bench-total-reads
@@ -230,6 +254,23 @@ module _ (κs : Lfts 3) (a : ArgsD bench-listing.signature κs) (r q : ResD benc
       × (now (s .1 .1 .0) ≡ now (t .1 .1 .0))
   bench-listing-determined p e = (p .0 ∙ sym (e .0), p .1 .0 ∙ sym (e .1 .0), p .1 .1 ∙ sym (e .1 .1))
 
+-- `bench_grouped`: the answer, `answer`
+module _ (κs : Lfts 3) (a : ArgsD bench-grouped.signature κs) (r q : ResD bench-grouped.signature κs)
+    (s t : AtExit (endedOf 3 bench-grouped-kinds.ps bench-grouped-kinds.r) κs) where
+  pub bench-grouped-determined : bench-grouped-reads.Post κs a r s → bench-grouped-reads.Post κs a q t →
+      (r ≡ q)
+      × (now (s .1 .1 .1 .1 .1 .0) ≡ now (t .1 .1 .1 .1 .1 .0))
+  bench-grouped-determined p e = (p .0 ∙ sym (e .0), p .1 ∙ sym (e .1))
+
+-- `bench_group_base`: the answer, `words`, `answer`
+module _ (κs : Lfts 3) (a : ArgsD bench-group-base.signature κs) (r q : ResD bench-group-base.signature κs)
+    (s t : AtExit (endedOf 3 bench-group-base-kinds.ps bench-group-base-kinds.r) κs) where
+  pub bench-group-base-determined : bench-group-base-reads.Post κs a r s → bench-group-base-reads.Post κs a q t →
+      (r ≡ q)
+      × (now (s .1 .1 .1 .1 .1 .1 .0) ≡ now (t .1 .1 .1 .1 .1 .1 .0))
+      × (now (s .1 .1 .1 .1 .1 .1 .1 .0) ≡ now (t .1 .1 .1 .1 .1 .1 .1 .0))
+  bench-group-base-determined p e = (p .0 ∙ sym (e .0), p .1 .0 ∙ sym (e .1 .0), p .1 .1 ∙ sym (e .1 .1))
+
 -- `bench_refusal`: the answer
 module _ (κs : Lfts 2) (a : ArgsD bench-refusal.signature κs) (r q : ResD bench-refusal.signature κs)
     (s t : AtExit (endedOf 2 bench-refusal-kinds.ps bench-refusal-kinds.r) κs) where
@@ -281,6 +322,32 @@ module _ (κs : Lfts 7) (a : ArgsD bench-analyse.signature κs) (r q : ResD benc
     p .1 .1 .1 .1 .0 ∙ sym (e .1 .1 .1 .1 .0),
     p .1 .1 .1 .1 .1 ∙ sym (e .1 .1 .1 .1 .1),
   )
+
+-- `bench_pool`: the answer, `answer`, `real`
+module _ (κs : Lfts 4) (a : ArgsD bench-pool.signature κs) (r q : ResD bench-pool.signature κs)
+    (s t : AtExit (endedOf 4 bench-pool-kinds.ps bench-pool-kinds.r) κs) where
+  pub bench-pool-determined : bench-pool-reads.Post κs a r s → bench-pool-reads.Post κs a q t →
+      (r ≡ q)
+      × (now (s .1 .1 .0) ≡ now (t .1 .1 .0))
+      × (now (s .1 .1 .1 .0) ≡ now (t .1 .1 .1 .0))
+  bench-pool-determined p e = (p .0 ∙ sym (e .0), p .1 .0 ∙ sym (e .1 .0), p .1 .1 ∙ sym (e .1 .1))
+
+-- `bench_practice`: the answer, `readings`
+module _ (κs : Lfts 3) (a : ArgsD bench-practice.signature κs) (r q : ResD bench-practice.signature κs)
+    (s t : AtExit (endedOf 3 bench-practice-kinds.ps bench-practice-kinds.r) κs) where
+  pub bench-practice-determined : bench-practice-reads.Post κs a r s → bench-practice-reads.Post κs a q t →
+      (r ≡ q)
+      × (now (s .1 .1 .1 .1 .1 .1 .1 .1 .0) ≡ now (t .1 .1 .1 .1 .1 .1 .1 .1 .0))
+  bench-practice-determined p e = (p .0 ∙ sym (e .0), p .1 ∙ sym (e .1))
+
+-- `bench_practice_file`: the answer, `out`, `answer`
+module _ (κs : Lfts 4) (a : ArgsD bench-practice-file.signature κs) (r q : ResD bench-practice-file.signature κs)
+    (s t : AtExit (endedOf 4 bench-practice-file-kinds.ps bench-practice-file-kinds.r) κs) where
+  pub bench-practice-file-determined : bench-practice-file-reads.Post κs a r s → bench-practice-file-reads.Post κs a q t →
+      (r ≡ q)
+      × (now (s .1 .1 .1 .1 .1 .1 .1 .1 .1 .0) ≡ now (t .1 .1 .1 .1 .1 .1 .1 .1 .1 .0))
+      × (now (s .1 .1 .1 .1 .1 .1 .1 .1 .1 .1 .0) ≡ now (t .1 .1 .1 .1 .1 .1 .1 .1 .1 .1 .0))
+  bench-practice-file-determined p e = (p .0 ∙ sym (e .0), p .1 .0 ∙ sym (e .1 .0), p .1 .1 ∙ sym (e .1 .1))
 
 -- `bench_read_second`: the answer, `signed`, `answer`
 module _ (κs : Lfts 3) (a : ArgsD bench-read-second.signature κs) (r q : ResD bench-read-second.signature κs)
@@ -345,6 +412,30 @@ module _ (κs : Lfts 3) (a : ArgsD bench-listing-second.signature κs) (r q : Re
       × (now (s .1 .0) ≡ now (t .1 .0))
       × (now (s .1 .1 .0) ≡ now (t .1 .1 .0))
   bench-listing-second-determined p e = (p .0 ∙ sym (e .0), p .1 .0 ∙ sym (e .1 .0), p .1 .1 ∙ sym (e .1 .1))
+
+-- `bench_check_parts`: the answer, `answer`
+module _ (κs : Lfts 4) (a : ArgsD bench-check-parts.signature κs) (r q : ResD bench-check-parts.signature κs)
+    (s t : AtExit (endedOf 4 bench-check-parts-kinds.ps bench-check-parts-kinds.r) κs) where
+  pub bench-check-parts-determined : bench-check-parts-reads.Post κs a r s → bench-check-parts-reads.Post κs a q t →
+      (r ≡ q)
+      × (now (s .1 .1 .1 .1 .1 .1 .1 .1 .1 .1 .1 .1 .0) ≡ now (t .1 .1 .1 .1 .1 .1 .1 .1 .1 .1 .1 .1 .0))
+  bench-check-parts-determined p e = (p .0 ∙ sym (e .0), p .1 ∙ sym (e .1))
+
+-- `bench_check_file`: the answer, `answer`
+module _ (κs : Lfts 3) (a : ArgsD bench-check-file.signature κs) (r q : ResD bench-check-file.signature κs)
+    (s t : AtExit (endedOf 3 bench-check-file-kinds.ps bench-check-file-kinds.r) κs) where
+  pub bench-check-file-determined : bench-check-file-reads.Post κs a r s → bench-check-file-reads.Post κs a q t →
+      (r ≡ q)
+      × (now (s .1 .1 .1 .1 .1 .0) ≡ now (t .1 .1 .1 .1 .1 .0))
+  bench-check-file-determined p e = (p .0 ∙ sym (e .0), p .1 ∙ sym (e .1))
+
+-- `bench_check_second`: the answer, `answer`
+module _ (κs : Lfts 3) (a : ArgsD bench-check-second.signature κs) (r q : ResD bench-check-second.signature κs)
+    (s t : AtExit (endedOf 3 bench-check-second-kinds.ps bench-check-second-kinds.r) κs) where
+  pub bench-check-second-determined : bench-check-second-reads.Post κs a r s → bench-check-second-reads.Post κs a q t →
+      (r ≡ q)
+      × (now (s .1 .1 .1 .1 .1 .0) ≡ now (t .1 .1 .1 .1 .1 .0))
+  bench-check-second-determined p e = (p .0 ∙ sym (e .0), p .1 ∙ sym (e .1))
 
 -- `bench_total`: the answer, `signed`
 module _ (κs : Lfts 3) (a : ArgsD bench-total.signature κs) (r q : ResD bench-total.signature κs)

@@ -87,12 +87,14 @@ use Rattle.meaning.specs.Edition2.{
   toSecondVerdict,
   toFirstVerdict,
 }
+use Rattle.meaning.specs.Practice.{near, widthLimit, practised, trueSum, practiceVerdict, practiceFileVerdict}
 use Rattle.slots.specs.Answers.{tableCall, judgedCall, totalCall, sumCall, valueCall, deviationCall, spreadCall, solvedCall}
 use Rattle.slots.specs.Answers.{fieldCall, readCall, secondCall, writtenCall, listedCall}
 use Rattle.laws.proofs.Chains.{refused-is-not}
 use Rattle.slots.proofs.Numbered.{Numbered, numbered-test, numbered-then}
 use Rattle.api.specs.Jobs.{analyseCall}
 use Rattle.api.specs.Files.{solveCall, fileWritten, fileListed}
+use Rattle.api.specs.Practising.{practiceWritten}
 use Rattle.api.specs.Second.{secondSolveCall, secondWritten, movedToSecond, movedToFirst, secondListed}
 
 -- ---- the tests
@@ -119,7 +121,7 @@ restraint-numbered h w M =
 reach-numbered : (y : List ℤ) → Numbered (inReach y)
 reach-numbered y = numbered-test (eqb (farReading y) (length y)) 7 (farReading y)
 
-room-numbered : (len want : ℕ) → Numbered (room len want)
+pub room-numbered : (len want : ℕ) → Numbered (room len want)
 room-numbered len want = numbered-test (leb want len) 9 0
 
 -- ---- designs
@@ -267,7 +269,7 @@ module _ (s : List ℕ) where
   placed-numbered Accepted n = n
   placed-numbered (Refused k i) n = record { unless = λ e. absurd (refused-is-not k i (n .unless e)) }
 
-  file-numbered : Numbered (readVerdict s)
+  pub file-numbered : Numbered (readVerdict s)
   unfolding readVerdict
   file-numbered = numbered-then fields-numbered (placed-numbered _ (contents-numbered (headOf s) (blocksOf s) (readingsOf s) (setOf s) (sumOf s)))
 
@@ -353,3 +355,22 @@ write-second-numbered h d y w M names out answer =
     let named = numbered-then (slices-numbered h d y) (numbered-test (eqb (length names) 0 || eqb (length names) (namesLength h)) 2 0) in
     let tests = numbered-then named (contents-numbered h d y w M) in
     numbered-then (numbered-then tests (room-numbered (length out) (fileLength2 h names))) (room-numbered (length answer) 1)
+
+-- ---- practice
+
+module _ (h : Head) (d : List ℕ) (u : List ℤ) (w : ℕ) where
+  practised-numbered : Numbered (practised h d u w)
+  unfolding practised
+  practised-numbered =
+      let lengths = numbered-then (numbered-then (sizes-numbered h) (length-numbered (length d) (listLength h))) (length-numbered (length u) (objects h)) in
+      numbered-then (numbered-then (numbered-then lengths (clean-numbered h d)) (balance-numbered h d)) (numbered-test (near u && leb w widthLimit) 15 0)
+
+  pub practice-numbered : (len : ℕ) → Numbered (practiceVerdict h d u w len)
+  unfolding practiceVerdict
+  practice-numbered len = numbered-then practised-numbered (room-numbered len (blocks h))
+
+  pub practice-file-numbered : (set : ℕ) (out answer : List ℕ) → Numbered (writtenCall (practiceWritten h d u w set out) answer)
+  unfolding writtenCall practiceFileVerdict
+  practice-file-numbered set out answer =
+      numbered-then (numbered-then (numbered-then practised-numbered (restraint-numbered h set (trueSum h u set))) (room-numbered (length out) (fileLength h)))
+      (room-numbered (length answer) 1)

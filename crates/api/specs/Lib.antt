@@ -4,3 +4,6 @@ pub mod Rooms
 pub mod Jobs
 pub mod Files
 pub mod Second
+pub mod Groups
+pub mod Sheets
+pub mod Practising

@@ -77,11 +77,11 @@ quotients = refl
 
 -- the corners of the range of a spread, and one past each
 ranges : (
-    ranged 151115727451828646838271 2600 1300
+    ranged 9671406556917033397649407 2600 83200
     && ranged 0 1 0
-    && not (ranged 151115727451828646838272 2600 1300)
+    && not (ranged 9671406556917033397649408 2600 83200)
     && not (ranged 0 0 0)
     && not (ranged 0 2601 0)
-    && not (ranged 0 1 1301)) ≡ true
+    && not (ranged 0 1 83201)) ≡ true
 unfolding ranged
 ranges = refl

@@ -26,23 +26,23 @@ use Rattle.laws.proofs.Rounding.{root-largest}
 
 -- the three numbers are in their range
 pub record Ranged (q vbeta freedom : ℕ) : Type 0 where
-  pub q-most : q < 2 ^ 77
+  pub q-most : q < 2 ^ 83
   pub vbeta-some : 0 < vbeta
   pub vbeta-most : vbeta ≤ 2600
-  pub freedom-most : freedom ≤ 1300
+  pub freedom-most : freedom ≤ 83200
 
 module _ (q s f : ℕ) where
   -- the test accepts only such numbers
   pub ranged-is : ranged q s f ≡ true → Ranged q s f
   unfolding ranged
   ranged-is e =
-      let a = and-right (ltb q (2 ^ 77)) (ltb 0 s && (leb s 2600 && leb f 1300)) e in
-      let b = and-right (ltb 0 s) (leb s 2600 && leb f 1300) a in
+      let a = and-right (ltb q (2 ^ 83)) (ltb 0 s && (leb s 2600 && leb f 83200)) e in
+      let b = and-right (ltb 0 s) (leb s 2600 && leb f 83200) a in
       record {
-        q-most = ltb-true _ _ (and-left (ltb q (2 ^ 77)) (ltb 0 s && (leb s 2600 && leb f 1300)) e);
-        vbeta-some = ltb-true _ _ (and-left (ltb 0 s) (leb s 2600 && leb f 1300) a);
-        vbeta-most = leb-true _ _ (and-left (leb s 2600) (leb f 1300) b);
-        freedom-most = leb-true _ _ (and-right (leb s 2600) (leb f 1300) b);
+        q-most = ltb-true _ _ (and-left (ltb q (2 ^ 83)) (ltb 0 s && (leb s 2600 && leb f 83200)) e);
+        vbeta-some = ltb-true _ _ (and-left (ltb 0 s) (leb s 2600 && leb f 83200) a);
+        vbeta-most = leb-true _ _ (and-left (leb s 2600) (leb f 83200) b);
+        freedom-most = leb-true _ _ (and-right (leb s 2600) (leb f 83200) b);
       }
 
   -- and all such numbers
@@ -66,13 +66,13 @@ product-range q s f r l =
 -- ---- the hundredths
 
 -- 10,000·Q over anything is far below what the root of the definition takes
-few : (q d : ℕ) → q < 2 ^ 77 → 10000 * q / d < 4 ^ 64
+few : (q d : ℕ) → q < 2 ^ 83 → 10000 * q / d < 4 ^ 64
 few q d h =
-    let most : 10000 * q < 2 ^ 91 = omega arith in
+    let most : 10000 * q < 2 ^ 97 = omega arith in
     lt-of-le-of-lt (div-le-self (10000 * q) d) (lt-trans most (lit< tt))
 
 -- 10,000·Q is far below 2 ^ 128
-pub scaled-fits : (q : ℕ) → q < 2 ^ 77 → q * 10000 < 2 ^ 120
+pub scaled-fits : (q : ℕ) → q < 2 ^ 83 → q * 10000 < 2 ^ 120
 scaled-fits q h = omega arith
 
 -- with no freedom it is 0
@@ -109,14 +109,14 @@ root-lt a b h = by (decLe b a)
     by (no f) = lt-of-not-le f
 
 -- k is an f64 exactly
-small : (q s f : ℕ) → q < 2 ^ 77 → spreadHundredths q s f < 2 ^ 53
+small : (q s f : ℕ) → q < 2 ^ 83 → spreadHundredths q s f < 2 ^ 53
 unfolding spreadHundredths
 small q s zero h = omega arith
 small q s (suc f) h =
     let x = 10000 * q / (s * suc f) in
     let l : x ≤ 10000 * q = div-le-self (10000 * q) (s * suc f) in
     let low : root 64 x * root 64 x ≤ x = root-largest 64 x (few q (s * suc f) h) .0 in
-    let r : root 64 x < 2 ^ 46 = root-lt (root 64 x) (2 ^ 46) (omega arith) in
+    let r : root 64 x < 2 ^ 49 = root-lt (root 64 x) (2 ^ 49) (omega arith) in
     omega arith
 
 -- so are the hundredths, always

@@ -1,4 +1,4 @@
--- The spread for every Q, v·beta and f: its hundredths are 0 outside a range that every accepted job keeps. Assumes nothing.
+-- The spread for every Q, v·beta and f: its hundredths are 0 outside a range that every accepted job, and 64 of them pooled, keep. Assumes nothing.
 use Prim.Native.Nat.{ℕ, _^_}
 use mathlib.Core.Bool.{Bool, cond, _&&_}
 use lib.Dec.{ltb, leb}
@@ -8,9 +8,9 @@ use Rattle.meaning.specs.Analysis.{spreadHundredths}
 use Rattle.meaning.specs.Publishing.{spreadOf}
 use Rattle.meaning.specs.Wide.{value}
 
--- that range: Q is below 2 ^ 77, v·beta is from 1 to 2600, and f is at most 1300
+-- that range: Q is below 2 ^ 83, v·beta is from 1 to 2600, and f is at most 83200, as for 64 jobs of 1300
 unfoldable pub ranged : ℕ → ℕ → ℕ → Bool
-ranged q vbeta freedom = ltb q (2 ^ 77) && (ltb 0 vbeta && (leb vbeta 2600 && leb freedom 1300))
+ranged q vbeta freedom = ltb q (2 ^ 83) && (ltb 0 vbeta && (leb vbeta 2600 && leb freedom 83200))
 
 -- k, from Q, v·beta and f; 0 outside the range
 unfoldable pub hundredthsFrom : ℕ → ℕ → ℕ → ℕ

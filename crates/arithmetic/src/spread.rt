@@ -40,8 +40,8 @@ fn as_spread(hundredths: u64, freedom: u64) -> Spread
     }
 }
 
-// The whole hundredths: 0 with no freedom, and outside a range that every accepted job keeps. The largest k with k·k·d at most x is the root of x / d,
-// cut.
+// The whole hundredths: 0 with no freedom, and outside a range that every accepted job and 64 of them pooled keep. The largest k with k·k·d at most x is
+// the root of x / d, cut.
 fn hundredths_from(q: Wide, vbeta: u64, freedom: u64) -> u64
     ensures { λ r. ⌜ r ≡ hundredthsFrom (value q) vbeta freedom ⌝ }
 {
@@ -57,11 +57,11 @@ fn hundredths_from(q: Wide, vbeta: u64, freedom: u64) -> u64
     }
 }
 
-// Whether the three numbers are in a range that every accepted job keeps.
+// Whether the three numbers are in a range that every accepted job and 64 of them pooled keep.
 fn is_ranged(q: Wide, vbeta: u64, freedom: u64) -> bool
     ensures { λ r. ⌜ r ≡ ranged (value q) vbeta freedom ⌝ }
 {
-    if 8192 <= q.high {
+    if 524288 <= q.high {
         return false;
     }
     if vbeta < 1 {
@@ -70,7 +70,7 @@ fn is_ranged(q: Wide, vbeta: u64, freedom: u64) -> bool
     if 2600 < vbeta {
         return false;
     }
-    if 1300 < freedom {
+    if 83200 < freedom {
         return false;
     }
     true

@@ -1,2 +1,3 @@
--- That each promise determines its outcome.
+-- That each promise determines its outcome, and what neighbours take of the counting.
 pub mod Determined
+pub mod Blocks

@@ -1,6 +1,6 @@
 -- What the customer signs: the three demands, each for every byte string and for every direct call, and the requests on writing jobs, on fields, on the
--- second edition, on uncertainty and on sums of days. Each is a record of specs/, with a field for each clause of the customer's sentence; here stand the
--- proofs, by the laws of the definitions.
+-- second edition, on uncertainty, on sums of days, on grouped sets, on sheets of other laboratories, on practice readings and on the pooled spread. Each is a
+-- record of specs/, with a field for each clause of the customer's sentence; here stand the proofs, by the laws of the definitions.
 --     demand-1, demand-1-calls       specs/Demand1, specs/Calls      refused by number, place and order, and nothing lent is changed
 --     demand-2, demand-2-calls       specs/Demand2, specs/Answers    accepted exactly if balanced, and the paper's fractions
 --     demand-3, demand-3-calls       specs/Demand3                   the exact values are best, and the published ones near
@@ -11,13 +11,20 @@
 --     calls-on-the-second-edition, writing-the-second-edition    specs/SecondCalls    what the calls on such files hand back and leave (02, P7)
 --     sums-of-days, sums-of-files    specs/Days                      the figures of two days add to those of their sum (02, P12)
 --     sums-of-deviations, -in-files  specs/Days                      what the deviations of an accepted job add to (02, P12)
+--     blocks-in-groups, grouped-sets    specs/Groups                  partial balance with respect to groups, and theorem 5.1 (02, P9)
+--     sheets-of-parts, -of-files, -of-second-files    specs/Sheet    a sheet agrees exactly if every claim is right, and then keeps demand 3 (02, P10)
+--     the-generator, practice-readings    specs/Practice             readings from true values, and what they give back (02, P11)
+--     pooled-spread, one-job-pooled, no-freedom-adds-nothing    specs/Pooled    one spread of up to 64 jobs, in any order (02, P13)
+--     pooled-cut, pooled-refused, pooled-odd                    specs/Pooled    its refusals, with the index of a job (02, P13)
 -- Assumes nothing.
 use mathlib.Core.List.{List}
 use mathlib.Core.Path.{refl, ap}
 use Prim.Native.Nat.{ℕ}
+use lib.IntN.{ℤ}
 use lib.ListN.{length, drop}
 use lib.Seq.{take-at, drop-at}
 use Rattle.records.specs.declared.Head.{Head}
+use Rattle.records.specs.declared.Spread.{Spread}
 use Rattle.records.specs.declared.Verdict.{Verdict}
 use Rattle.meaning.specs.File.{headOf, blocksOf, readingsOf, setOf, sumOf, readVerdict, solveVerdict}
 use Rattle.meaning.specs.Text.{textUnder, textOf}
@@ -36,7 +43,10 @@ use Rattle.demands.specs.Uncertainty.{UncertaintyPerObject, UncertaintyP
 use Rattle.demands.specs.Writing.{WritingJobs, WritingFiles}
 use Rattle.demands.specs.Edition2.{FirstEdition, SecondEdition}
 use Rattle.demands.specs.SecondCalls.{SecondCalls, WritingSecond}
+use Rattle.demands.specs.Sheet.{SheetOfParts, SheetOfFile, SheetOfSecond}
 use Rattle.demands.specs.Days.{SumsOfDays, SumsOfFiles, SumsOfDeviations, SumsOfDeviationsIn}
+use Rattle.demands.specs.Practice.{Generator, Practice, PracticeReadings}
+use Rattle.demands.specs.Pooled.{PooledSpread, OneJobPooled, NothingAdded, PooledCut, PooledRefused, PooledOdd}
 use Rattle.demands.proofs.Order.{file-order, rooms-last, reading-ends, solving-ends, keeps-position, fields-led}
 use Rattle.demands.proofs.Calls.{refusing}
 use Rattle.demands.proofs.Balance.{file-exactly, file-unbalanced, file-well-formed}
@@ -49,7 +59,12 @@ use Rattle.demands.proofs.Uncertainty.{uncertainty}
 use Rattle.demands.proofs.Writing.{jobs-written, files-written}
 use Rattle.demands.proofs.Edition2.{first-edition, second-edition}
 use Rattle.demands.proofs.SecondCalls.{second-calls, second-written}
+use Rattle.demands.specs.Groups.{AnyBlocks, FromBase}
+use Rattle.demands.proofs.Groups.{any-blocks, from-base}
 use Rattle.demands.proofs.Days.{days-added, files-added, deviations-added}
+use Rattle.demands.proofs.Sheet.{sheet-of-parts, sheet-of-file, sheet-of-second}
+use Rattle.demands.proofs.Practice.{generator, practice-read}
+use Rattle.demands.proofs.Pooled as pooling
 
 pub demand-1 : (s : List ℕ) → Demand1 s
 unfolding textOf
@@ -148,3 +163,42 @@ sums-of-deviations = deviations-added
 
 pub sums-of-deviations-in-files : (s : List ℕ) → SumsOfDeviationsIn s
 sums-of-deviations-in-files s e = deviations-added (jobIn s) (file-job s e .1)
+
+pub sheets-of-parts : (j : Job) (claims : List ℤ) (claimed : Spread) → SheetOfParts j claims claimed
+sheets-of-parts = sheet-of-parts
+
+pub sheets-of-files : (s : List ℕ) (claims : List ℤ) (claimed : Spread) → SheetOfFile s claims claimed
+sheets-of-files = sheet-of-file
+
+pub sheets-of-second-files : (s : List ℕ) (claims : List ℤ) (claimed : Spread) → SheetOfSecond s claims claimed
+sheets-of-second-files = sheet-of-second
+
+pub the-generator : (start : ℕ) → Generator start
+the-generator = generator
+
+pub practice-readings : (x : Practice) → PracticeReadings x
+practice-readings = practice-read
+
+pub pooled-spread : (first : List ℕ) (rest : List (List ℕ)) → PooledSpread first rest
+pooled-spread = pooling.pooled-spread
+
+pub one-job-pooled : (s : List ℕ) → OneJobPooled s
+one-job-pooled = pooling.one-job-pooled
+
+pub no-freedom-adds-nothing : (s : List ℕ) → NothingAdded s
+no-freedom-adds-nothing = pooling.nothing-added
+
+pub pooled-cut : (bytes lengths : List ℕ) → PooledCut bytes lengths
+pooled-cut = pooling.pooled-cut
+
+pub pooled-refused : (before : List (List ℕ)) (s : List ℕ) (after : List (List ℕ)) → PooledRefused before s after
+pooled-refused = pooling.pooled-refused
+
+pub pooled-odd : (first : List ℕ) (before : List (List ℕ)) (s : List ℕ) (after : List (List ℕ)) → PooledOdd first before s after
+pooled-odd = pooling.pooled-odd
+
+pub blocks-in-groups : (count v p : ℕ) (d groups : List ℕ) → AnyBlocks count v p d groups
+blocks-in-groups = any-blocks
+
+pub grouped-sets : (h : Head) (d : List ℕ) (g : ℕ) → FromBase h d g
+grouped-sets = from-base

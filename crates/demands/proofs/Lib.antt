@@ -14,5 +14,10 @@ pub mod FourFields
 pub mod Edition2
 pub mod SecondCalls
 pub mod Days
+pub mod Sheet
+pub mod Practice
+pub mod NoFreedom
+pub mod Pooled
+pub mod Groups
 pub mod Demands
 pub mod Rows

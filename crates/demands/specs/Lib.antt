@@ -16,3 +16,7 @@ pub mod Fields
 pub mod Edition2
 pub mod SecondCalls
 pub mod Days
+pub mod Sheet
+pub mod Practice
+pub mod Pooled
+pub mod Groups

@@ -10,6 +10,9 @@ use denote.Triple.Clauses.{AtExit}
 use Rattle.design.proofs.blocks.pairs_refusal as pairs-refusal
 use Rattle.design.proofs.blocks.pairs_refusal.Kinds as pairs-refusal-kinds
 use Rattle.design.proofs.blocks.pairs_refusal.Reads as pairs-refusal-reads
+use Rattle.design.proofs.blocks.stands_among as stands-among
+use Rattle.design.proofs.blocks.stands_among.Kinds as stands-among-kinds
+use Rattle.design.proofs.blocks.stands_among.Reads as stands-among-reads
 use Rattle.design.proofs.development.develop as develop
 use Rattle.design.proofs.development.develop.Kinds as develop-kinds
 use Rattle.design.proofs.development.develop.Reads as develop-reads
@@ -29,6 +32,13 @@ module _ (κs : Lfts 1) (a : ArgsD pairs-refusal.signature κs) (r q : ResD pair
   pub pairs-refusal-determined : pairs-refusal-reads.Post κs a r s → pairs-refusal-reads.Post κs a q t →
       r ≡ q
   pairs-refusal-determined p e = p ∙ sym e
+
+-- `stands_among`: the answer
+module _ (κs : Lfts 1) (a : ArgsD stands-among.signature κs) (r q : ResD stands-among.signature κs)
+    (s t : AtExit (endedOf 1 stands-among-kinds.ps stands-among-kinds.r) κs) where
+  pub stands-among-determined : stands-among-reads.Post κs a r s → stands-among-reads.Post κs a q t →
+      r ≡ q
+  stands-among-determined p e = p ∙ sym e
 
 -- `develop`: the answer, `words`
 module _ (κs : Lfts 2) (a : ArgsD develop.signature κs) (r q : ResD develop.signature κs)

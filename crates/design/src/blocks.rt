@@ -43,7 +43,7 @@ fn in_range(head: Head, byte: u8) -> bool
 }
 
 // Whether a byte stands among some bytes.
-fn stands_among(bytes: &[u8], byte: u8) -> bool
+pub fn stands_among(bytes: &[u8], byte: u8) -> bool
     ensures { λ r. ⌜ r ≡ ltb 0 (occ byte (now (bytes .entry))) ⌝ }
 {
     for k in 0..bytes.len() {

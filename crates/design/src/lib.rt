@@ -1,11 +1,13 @@
 // A design as a chemist types it: its sizes, its list of initial blocks, and its development. The face: why a block list is refused, and the words of
-// all blocks, or of one initial block, laid into lent room. Neighbours ask besides whether a head keeps to the sizes, and for its v.
+// all blocks, or of one initial block, laid into lent room. Neighbours ask besides whether a head keeps to the sizes, for its v, and whether a
+// byte stands among some.
 mod addition;
 mod blocks;
 mod development;
 mod sizes;
 
 pub use blocks::pairs_refusal;
+pub use blocks::stands_among;
 pub use development::develop;
 pub use development::develop_initial;
 pub use sizes::objects;

@@ -13,6 +13,9 @@ use Rattle.job.proofs.moving.to_second.Reads as to-second-reads
 use Rattle.job.proofs.moving.to_first as to-first
 use Rattle.job.proofs.moving.to_first.Kinds as to-first-kinds
 use Rattle.job.proofs.moving.to_first.Reads as to-first-reads
+use Rattle.job.proofs.pooling.pool as pool
+use Rattle.job.proofs.pooling.pool.Kinds as pool-kinds
+use Rattle.job.proofs.pooling.pool.Reads as pool-reads
 use Rattle.job.proofs.reading.read as read
 use Rattle.job.proofs.reading.read.Kinds as read-kinds
 use Rattle.job.proofs.reading.read.Reads as read-reads
@@ -25,6 +28,12 @@ use Rattle.job.proofs.second.solve_second.Reads as solve-second-reads
 use Rattle.job.proofs.second.set_second as set-second
 use Rattle.job.proofs.second.set_second.Kinds as set-second-kinds
 use Rattle.job.proofs.second.set_second.Reads as set-second-reads
+use Rattle.job.proofs.sheet.check_file as check-file
+use Rattle.job.proofs.sheet.check_file.Kinds as check-file-kinds
+use Rattle.job.proofs.sheet.check_file.Reads as check-file-reads
+use Rattle.job.proofs.sheet.check_second as check-second
+use Rattle.job.proofs.sheet.check_second.Kinds as check-second-kinds
+use Rattle.job.proofs.sheet.check_second.Reads as check-second-reads
 use Rattle.job.proofs.solving.solve as solve
 use Rattle.job.proofs.solving.solve.Kinds as solve-kinds
 use Rattle.job.proofs.solving.solve.Reads as solve-reads
@@ -44,6 +53,13 @@ module _ (κs : Lfts 2) (a : ArgsD to-first.signature κs) (r q : ResD to-first.
       (r ≡ q)
       × (now (s .1 .0) ≡ now (t .1 .0))
   to-first-determined p e = (p .0 ∙ sym (e .0), p .1 ∙ sym (e .1))
+
+-- `pool`: the answer
+module _ (κs : Lfts 2) (a : ArgsD pool.signature κs) (r q : ResD pool.signature κs)
+    (s t : AtExit (endedOf 2 pool-kinds.ps pool-kinds.r) κs) where
+  pub pool-determined : pool-reads.Post κs a r s → pool-reads.Post κs a q t →
+      r ≡ q
+  pool-determined p e = p ∙ sym e
 
 -- `read`: the answer
 module _ (κs : Lfts 1) (a : ArgsD read.signature κs) (r q : ResD read.signature κs)
@@ -75,6 +91,20 @@ module _ (κs : Lfts 1) (a : ArgsD set-second.signature κs) (r q : ResD set-sec
   pub set-second-determined : set-second-reads.Post κs a r s → set-second-reads.Post κs a q t →
       r ≡ q
   set-second-determined p e = p ∙ sym e
+
+-- `check_file`: the answer
+module _ (κs : Lfts 2) (a : ArgsD check-file.signature κs) (r q : ResD check-file.signature κs)
+    (s t : AtExit (endedOf 2 check-file-kinds.ps check-file-kinds.r) κs) where
+  pub check-file-determined : check-file-reads.Post κs a r s → check-file-reads.Post κs a q t →
+      r ≡ q
+  check-file-determined p e = p ∙ sym e
+
+-- `check_second`: the answer
+module _ (κs : Lfts 2) (a : ArgsD check-second.signature κs) (r q : ResD check-second.signature κs)
+    (s t : AtExit (endedOf 2 check-second-kinds.ps check-second-kinds.r) κs) where
+  pub check-second-determined : check-second-reads.Post κs a r s → check-second-reads.Post κs a q t →
+      r ≡ q
+  check-second-determined p e = p ∙ sym e
 
 -- `solve`: the answer, `words`, `values`, `deviations`
 module _ (κs : Lfts 4) (a : ArgsD solve.signature κs) (r q : ResD solve.signature κs)

@@ -1,11 +1,15 @@
 -- A direct call on what a file holds. Assumes nothing.
 use Prim.Native.Nat.{ℕ}
 use mathlib.Core.List.{List}
+use lib.IntN.{ℤ}
+use Rattle.records.specs.declared.Checked.{Checked}
+use Rattle.records.specs.declared.Spread.{Spread}
 use Rattle.records.specs.declared.Solved.{Solved}
 use Rattle.records.specs.declared.Verdict.{Verdict}
 use Rattle.meaning.specs.Calls.{jobVerdict}
 use Rattle.meaning.specs.Edition2.{movedOn}
 use Rattle.meaning.specs.File.{headOf, blocksOf, readingsOf, setOf, sumOf, placed}
+use Rattle.meaning.specs.Sheet.{checkAnswer}
 
 -- its verdict
 abbrev pub directVerdict : List ℕ → Verdict
@@ -38,3 +42,7 @@ solvedOn solved = record {
   spreading =
       solved .spreading;
 }
+
+-- a sheet checked against what a file holds
+abbrev pub directChecked : List ℕ → List ℤ → Spread → Checked
+directChecked s claims claimed = checkAnswer (headOf s) (blocksOf s) (readingsOf s) (setOf s) (sumOf s) claims claimed

@@ -28,12 +28,12 @@ use Rattle.laws.proofs.Occurrences.{Each, each-map, occ-append, occ-tot
 -- ---- no byte offends
 
 -- of two tests of which neither holds, the first does not
-neither-left : (a b : Bool) → a || b ≡ false → a ≡ false
+pub neither-left : (a b : Bool) → a || b ≡ false → a ≡ false
 neither-left true b e = absurd (false≢true (sym e))
 neither-left false b e = refl
 
 -- nor does the second
-neither-right : (a b : Bool) → a || b ≡ false → b ≡ false
+pub neither-right : (a b : Bool) → a || b ≡ false → b ≡ false
 neither-right true b e = absurd (false≢true (sym e))
 neither-right false b e = e
 
@@ -48,6 +48,27 @@ part-length d a len l = length-take-le len (drop a d) (omega (arith, length-drop
 -- byte i of a part is byte a + i of the list
 pub part-byte : (d : List ℕ) (a len i : ℕ) → i < len → getD (take len (drop a d)) i 0 ≡ getD d (a + i) 0
 part-byte d a len i l = getD-take len (drop a d) i 0 l ∙ getD-drop a d i 0
+
+-- where no byte stands among those before it in its block of q bytes, none stands twice in a block
+pub block-fresh : (q : ℕ) (d : List ℕ) → ((i : ℕ) → i < length d → occ (getD d i 0) (take (i % q) (drop (i - i % q) d)) ≡ 0) → (j x : ℕ) →
+    q * j + q ≤ length d → occ x (take q (drop (q * j) d)) ≤ 1
+block-fresh q d none j x fits =
+    fresh-once x (take q (drop (q * j) d)) (λ c m. fresh c (subst (λ (z : ℕ). c < z) (part-length d (q * j) q fits) m))
+  where
+    fresh : (c : ℕ) → c < q → occ (getD (take q (drop (q * j) d)) c 0) (take c (take q (drop (q * j) d))) ≡ 0
+    fresh c m =
+        ap₂ occ (part-byte d (q * j) q c m)
+        (take-take c q (drop (q * j) d) (omega arith) ∙ ap₂ (λ (a b : ℕ). take a (drop b d)) (sym place) start)
+        ∙ none (q * j + c) (omega arith)
+      where
+        place : (q * j + c) % q ≡ c
+        place = ap (λ (z : ℕ). (z + c) % q) (turn q j) ∙ digits-mod j m
+          where
+            turn : (a b : ℕ) → a * b ≡ b * a
+            turn a b = omega arith
+
+        start : q * j ≡ q * j + c - (q * j + c) % q
+        start = omega (arith, place)
 
 module _ (h : Head) (d : List ℕ) (s : Sound h d) where
   -- no byte of a sound design offends
@@ -72,22 +93,7 @@ module _ (h : Head) (d : List ℕ) (s : Sound h d) where
 
   -- no byte stands twice in an initial block
   pub initial-once : (j x : ℕ) → j < h .m → occ x (initial h d j) ≤ 1
-  initial-once j x l = fresh-once x (initial h d j) (λ c m. fresh c (subst (λ (z : ℕ). c < z) (part-length d (2 * h .p * j) (2 * h .p) (initial-fits j l)) m))
-    where
-      fresh : (c : ℕ) → c < 2 * h .p → occ (getD (initial h d j) c 0) (take c (initial h d j)) ≡ 0
-      fresh c m =
-          ap₂ occ (part-byte d (2 * h .p * j) (2 * h .p) c m)
-          (take-take c (2 * h .p) (drop (2 * h .p * j) d) (omega arith) ∙ ap₂ (λ (a b : ℕ). take a (drop b d)) (sym place) start)
-          ∙ not-before (2 * h .p * j + c) (omega (arith, initial-fits j l))
-        where
-          place : (2 * h .p * j + c) % (2 * h .p) ≡ c
-          place = ap (λ (z : ℕ). (z + c) % (2 * h .p)) (turn (2 * h .p) j) ∙ digits-mod j m
-            where
-              turn : (a b : ℕ) → a * b ≡ b * a
-              turn a b = omega arith
-
-          start : 2 * h .p * j ≡ 2 * h .p * j + c - (2 * h .p * j + c) % (2 * h .p)
-          start = omega (arith, place)
+  initial-once j x l = block-fresh (2 * h .p) d not-before j x (initial-fits j l)
 
   -- the bytes of a part are in range
   pub part-range : (a len : ℕ) → a + len ≤ length d → Each (λ x. inRange h x ≡ true) (take len (drop a d))

@@ -16,7 +16,7 @@ use Rattle.algebra.specs.Ranges.{sumℕ, all}
 use Rattle.algebra.proofs.Tests.{and-left, and-right, and-both, all-at, all-each}
 use Rattle.algebra.proofs.Sums.{sumℕ-cong}
 use Rattle.records.specs.declared.Head.{Head}
-use Rattle.meaning.specs.Design.{objects, blocks, occ, left, right, company, opposition, Balanced, balanced, beta}
+use Rattle.meaning.specs.Design.{objects, blocks, occ, left, right, companyIn, oppositionIn, company, opposition, Balanced, balanced, beta}
 use Rattle.meaning.specs.Refusals.{accepted}
 use Rattle.meaning.specs.Calls.{designVerdict}
 use Rattle.laws.proofs.Chains.{Sound, sound}
@@ -25,21 +25,31 @@ use Rattle.laws.proofs.Incidence.{Incidence, Even, Counts, times, self-
 
 -- ---- company and opposition do not mind which object is named first
 
--- company is symmetric
-pub company-symmetric : (h : Head) (d : List ℕ) (i j : ℕ) → company h d i j ≡ company h d j i
-unfolding company
-company-symmetric h d i j = sumℕ-cong (blocks h) _ _ (λ k l. turn (occ i (left h d k)) (occ j (left h d k)) (occ i (right h d k)) (occ j (right h d k)))
+-- whatever the blocks are, company is symmetric
+pub company-in-symmetric : (b : ℕ) (lefts rights : ℕ → List ℕ) (i j : ℕ) → companyIn b lefts rights i j ≡ companyIn b lefts rights j i
+company-in-symmetric b lefts rights i j =
+    sumℕ-cong b _ _ (λ k l. turn (occ i (lefts k)) (occ j (lefts k)) (occ i (rights k)) (occ j (rights k)))
   where
     turn : (a b c e : ℕ) → a * b + c * e ≡ b * a + e * c
     turn a b c e = omega arith
 
 -- so is opposition
-pub opposition-symmetric : (h : Head) (d : List ℕ) (i j : ℕ) → opposition h d i j ≡ opposition h d j i
-unfolding opposition
-opposition-symmetric h d i j = sumℕ-cong (blocks h) _ _ (λ k l. turn (occ i (left h d k)) (occ j (right h d k)) (occ i (right h d k)) (occ j (left h d k)))
+pub opposition-in-symmetric : (b : ℕ) (lefts rights : ℕ → List ℕ) (i j : ℕ) → oppositionIn b lefts rights i j ≡ oppositionIn b lefts rights j i
+opposition-in-symmetric b lefts rights i j =
+    sumℕ-cong b _ _ (λ k l. turn (occ i (lefts k)) (occ j (rights k)) (occ i (rights k)) (occ j (lefts k)))
   where
     turn : (a b c e : ℕ) → a * b + c * e ≡ e * c + b * a
     turn a b c e = omega arith
+
+-- of a design, company is symmetric
+pub company-symmetric : (h : Head) (d : List ℕ) (i j : ℕ) → company h d i j ≡ company h d j i
+unfolding company
+company-symmetric h d = company-in-symmetric (blocks h) (left h d) (right h d)
+
+-- so is opposition
+pub opposition-symmetric : (h : Head) (d : List ℕ) (i j : ℕ) → opposition h d i j ≡ opposition h d j i
+unfolding opposition
+opposition-symmetric h d = opposition-in-symmetric (blocks h) (left h d) (right h d)
 
 -- ---- the test of balance
 

@@ -10,6 +10,7 @@ pub mod Matrix
 pub mod Solution
 pub mod Analysis
 pub mod Days
+pub mod Practice
 pub mod Rounding
 pub mod Column
 pub mod Sizes
@@ -23,3 +24,6 @@ pub mod Enough
 pub mod Cut
 pub mod Edition2
 pub mod Putting
+pub mod Groups
+pub mod Grouping
+pub mod Pooled

@@ -3,4 +3,9 @@ pub mod Rows
 pub mod Examples
 pub mod Boundaries
 pub mod Editions
+pub mod Sheets
+pub mod SheetTexts
+pub mod Practising
+pub mod Pooling
 pub mod Addition
+pub mod Groupings

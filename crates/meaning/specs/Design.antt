@@ -70,13 +70,21 @@ left h d k = map (moved h (k % h .n)) (take (h .p) (drop (2 * h .p * (k / h .n))
 unfoldable pub right : Head → List ℕ → ℕ → List ℕ
 right h d k = map (moved h (k % h .n)) (take (h .p) (drop (2 * h .p * (k / h .n) + h .p) d))
 
+-- in how many of b blocks, of such left and such right objects, i and j share a side
+abbrev pub companyIn : ℕ → (ℕ → List ℕ) → (ℕ → List ℕ) → ℕ → ℕ → ℕ
+companyIn b left right i j = sumℕ b (λ k. occ i (left k) * occ j (left k) + occ i (right k) * occ j (right k))
+
+-- in how many they stand on opposite sides
+abbrev pub oppositionIn : ℕ → (ℕ → List ℕ) → (ℕ → List ℕ) → ℕ → ℕ → ℕ
+oppositionIn b left right i j = sumℕ b (λ k. occ i (left k) * occ j (right k) + occ i (right k) * occ j (left k))
+
 -- in how many blocks i and j share a side; with i twice, in how many blocks i stands (no object stands twice in a clean block)
 unfoldable pub company : Head → List ℕ → ℕ → ℕ → ℕ
-company h d i j = sumℕ (blocks h) (λ k. occ i (left h d k) * occ j (left h d k) + occ i (right h d k) * occ j (right h d k))
+company h d i j = companyIn (blocks h) (left h d) (right h d) i j
 
 -- in how many blocks i and j stand on opposite sides
 unfoldable pub opposition : Head → List ℕ → ℕ → ℕ → ℕ
-opposition h d i j = sumℕ (blocks h) (λ k. occ i (left h d k) * occ j (right h d k) + occ i (right h d k) * occ j (left h d k))
+opposition h d i j = oppositionIn (blocks h) (left h d) (right h d) i j
 
 -- balanced: every two different objects share a side l1 times and oppose l2 times, the same two numbers for all
 pub record Balanced (h : Head) (d : List ℕ) (l1 l2 : ℕ) : Type 0 where

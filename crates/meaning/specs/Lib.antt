@@ -10,3 +10,8 @@ pub mod File
 pub mod Writing
 pub mod Text
 pub mod Edition2
+pub mod Groups
+pub mod Sheet
+pub mod SheetText
+pub mod Practice
+pub mod Pooled

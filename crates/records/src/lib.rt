@@ -146,3 +146,75 @@ pub struct Listed {
     pub verdict: Verdict,
     pub length: usize,
 }
+
+// How often two objects meet in a set that is partially balanced with respect to groups, as the paper names it: those of one group share a side l11
+// times and oppose l21 times, those of two groups share a side l12 times and oppose l22 times.
+pub struct GroupCounts {
+    pub l11: u64,
+    pub l21: u64,
+    pub l12: u64,
+    pub l22: u64,
+}
+
+// The answer of a call that judges any blocks with respect to groups.
+pub struct Grouped {
+    pub verdict: Verdict,
+    pub counts: GroupCounts,
+}
+
+// The parameters of a grouped set: objects, blocks, in how many of them each object stands, objects a side, and its four counts.
+pub struct GroupParameters {
+    pub v: u64,
+    pub b: u64,
+    pub r: u64,
+    pub p: u64,
+    pub counts: GroupCounts,
+}
+
+// The answer of a call that makes a grouped set from a design, beside the words that it lays into the lent room.
+pub struct GroupedSet {
+    pub verdict: Verdict,
+    pub parameters: GroupParameters,
+}
+
+// The answer of a call that checks a sheet: it agrees; the first object whose claim differs, v where only the spread does; or the number and place of the
+// refusal.
+pub enum Checked {
+    Agrees,
+    Differs(usize),
+    Unchecked(u8, usize),
+}
+
+// What a word of a sheet's text says as a number: whether it is one, and which; 0 where it is none.
+pub struct Numeral {
+    pub read: bool,
+    pub number: u64,
+}
+
+// The same of a number with a sign.
+pub struct SignedNumeral {
+    pub read: bool,
+    pub number: i64,
+}
+
+// What a sheet's text claims of the spread: whether it says anything, whether that is `none`, the degrees of freedom, and the whole hundredths.
+pub struct SheetSpread {
+    pub read: bool,
+    pub none: bool,
+    pub freedom: u64,
+    pub hundredths: u64,
+}
+
+// What was read of a sheet's text: its first line that cannot be read, counted from 1, or 0; how many claims there are; the spread.
+pub struct SheetRead {
+    pub line: usize,
+    pub count: usize,
+    pub spread: SheetSpread,
+}
+
+// The answer of a call that pools the spread of several jobs: beside the verdict the index of the job that it speaks of, 0 where it speaks of none.
+pub struct Pooled {
+    pub verdict: Verdict,
+    pub index: usize,
+    pub spreading: Spreading,
+}

@@ -28,6 +28,12 @@ use Rattle.slots.proofs.files.lay_written.Reads as lay-written-reads
 use Rattle.slots.proofs.files.lay_listed as lay-listed
 use Rattle.slots.proofs.files.lay_listed.Kinds as lay-listed-kinds
 use Rattle.slots.proofs.files.lay_listed.Reads as lay-listed-reads
+use Rattle.slots.proofs.groups.lay_grouped as lay-grouped
+use Rattle.slots.proofs.groups.lay_grouped.Kinds as lay-grouped-kinds
+use Rattle.slots.proofs.groups.lay_grouped.Reads as lay-grouped-reads
+use Rattle.slots.proofs.groups.lay_group_set as lay-group-set
+use Rattle.slots.proofs.groups.lay_group_set.Kinds as lay-group-set-kinds
+use Rattle.slots.proofs.groups.lay_group_set.Reads as lay-group-set-reads
 use Rattle.slots.proofs.jobs.lay_total as lay-total
 use Rattle.slots.proofs.jobs.lay_total.Kinds as lay-total-kinds
 use Rattle.slots.proofs.jobs.lay_total.Reads as lay-total-reads
@@ -46,12 +52,21 @@ use Rattle.slots.proofs.jobs.lay_spread.Reads as lay-spread-reads
 use Rattle.slots.proofs.jobs.lay_solved as lay-solved
 use Rattle.slots.proofs.jobs.lay_solved.Kinds as lay-solved-kinds
 use Rattle.slots.proofs.jobs.lay_solved.Reads as lay-solved-reads
+use Rattle.slots.proofs.pools.told_at as told-at
+use Rattle.slots.proofs.pools.told_at.Kinds as told-at-kinds
+use Rattle.slots.proofs.pools.told_at.Reads as told-at-reads
+use Rattle.slots.proofs.pools.lay_pooled as lay-pooled
+use Rattle.slots.proofs.pools.lay_pooled.Kinds as lay-pooled-kinds
+use Rattle.slots.proofs.pools.lay_pooled.Reads as lay-pooled-reads
 use Rattle.slots.proofs.rooms.with_room as with-room
 use Rattle.slots.proofs.rooms.with_room.Kinds as with-room-kinds
 use Rattle.slots.proofs.rooms.with_room.Reads as with-room-reads
 use Rattle.slots.proofs.rooms.solved_room as solved-room
 use Rattle.slots.proofs.rooms.solved_room.Kinds as solved-room-kinds
 use Rattle.slots.proofs.rooms.solved_room.Reads as solved-room-reads
+use Rattle.slots.proofs.sheets.lay_checked as lay-checked
+use Rattle.slots.proofs.sheets.lay_checked.Kinds as lay-checked-kinds
+use Rattle.slots.proofs.sheets.lay_checked.Reads as lay-checked-reads
 use Rattle.slots.proofs.telling.told as told
 use Rattle.slots.proofs.telling.told.Kinds as told-kinds
 use Rattle.slots.proofs.telling.told.Reads as told-reads
@@ -114,6 +129,22 @@ module _ (κs : Lfts 1) (a : ArgsD lay-listed.signature κs) (r q : ResD lay-lis
       × (now (s .1 .0) ≡ now (t .1 .0))
   lay-listed-determined p e = (p .0 ∙ sym (e .0), p .1 ∙ sym (e .1))
 
+-- `lay_grouped`: the answer, `answer`
+module _ (κs : Lfts 1) (a : ArgsD lay-grouped.signature κs) (r q : ResD lay-grouped.signature κs)
+    (s t : AtExit (endedOf 1 lay-grouped-kinds.ps lay-grouped-kinds.r) κs) where
+  pub lay-grouped-determined : lay-grouped-reads.Post κs a r s → lay-grouped-reads.Post κs a q t →
+      (r ≡ q)
+      × (now (s .1 .0) ≡ now (t .1 .0))
+  lay-grouped-determined p e = (p .0 ∙ sym (e .0), p .1 ∙ sym (e .1))
+
+-- `lay_group_set`: the answer, `answer`
+module _ (κs : Lfts 1) (a : ArgsD lay-group-set.signature κs) (r q : ResD lay-group-set.signature κs)
+    (s t : AtExit (endedOf 1 lay-group-set-kinds.ps lay-group-set-kinds.r) κs) where
+  pub lay-group-set-determined : lay-group-set-reads.Post κs a r s → lay-group-set-reads.Post κs a q t →
+      (r ≡ q)
+      × (now (s .1 .0) ≡ now (t .1 .0))
+  lay-group-set-determined p e = (p .0 ∙ sym (e .0), p .1 ∙ sym (e .1))
+
 -- `lay_total`: the answer, `signed`
 module _ (κs : Lfts 1) (a : ArgsD lay-total.signature κs) (r q : ResD lay-total.signature κs)
     (s t : AtExit (endedOf 1 lay-total-kinds.ps lay-total-kinds.r) κs) where
@@ -167,6 +198,22 @@ module _ (κs : Lfts 2) (a : ArgsD lay-solved.signature κs) (r q : ResD lay-sol
       × (now (s .1 .1 .0) ≡ now (t .1 .1 .0))
   lay-solved-determined p e = (p .0 ∙ sym (e .0), p .1 .0 ∙ sym (e .1 .0), p .1 .1 ∙ sym (e .1 .1))
 
+-- `told_at`: the answer
+module _ (κs : Lfts 0) (a : ArgsD told-at.signature κs) (r q : ResD told-at.signature κs)
+    (s t : AtExit (endedOf 0 told-at-kinds.ps told-at-kinds.r) κs) where
+  pub told-at-determined : told-at-reads.Post κs a r s → told-at-reads.Post κs a q t →
+      r ≡ q
+  told-at-determined p e = p ∙ sym e
+
+-- `lay_pooled`: the answer, `answer`, `real`
+module _ (κs : Lfts 2) (a : ArgsD lay-pooled.signature κs) (r q : ResD lay-pooled.signature κs)
+    (s t : AtExit (endedOf 2 lay-pooled-kinds.ps lay-pooled-kinds.r) κs) where
+  pub lay-pooled-determined : lay-pooled-reads.Post κs a r s → lay-pooled-reads.Post κs a q t →
+      (r ≡ q)
+      × (now (s .1 .0) ≡ now (t .1 .0))
+      × (now (s .1 .1 .0) ≡ now (t .1 .1 .0))
+  lay-pooled-determined p e = (p .0 ∙ sym (e .0), p .1 .0 ∙ sym (e .1 .0), p .1 .1 ∙ sym (e .1 .1))
+
 -- `with_room`: the answer
 module _ (κs : Lfts 0) (a : ArgsD with-room.signature κs) (r q : ResD with-room.signature κs)
     (s t : AtExit (endedOf 0 with-room-kinds.ps with-room-kinds.r) κs) where
@@ -180,6 +227,14 @@ module _ (κs : Lfts 0) (a : ArgsD solved-room.signature κs) (r q : ResD solved
   pub solved-room-determined : solved-room-reads.Post κs a r s → solved-room-reads.Post κs a q t →
       r ≡ q
   solved-room-determined p e = p ∙ sym e
+
+-- `lay_checked`: the answer, `answer`
+module _ (κs : Lfts 1) (a : ArgsD lay-checked.signature κs) (r q : ResD lay-checked.signature κs)
+    (s t : AtExit (endedOf 1 lay-checked-kinds.ps lay-checked-kinds.r) κs) where
+  pub lay-checked-determined : lay-checked-reads.Post κs a r s → lay-checked-reads.Post κs a q t →
+      (r ≡ q)
+      × (now (s .1 .0) ≡ now (t .1 .0))
+  lay-checked-determined p e = (p .0 ∙ sym (e .0), p .1 ∙ sym (e .1))
 
 -- `told`: the answer
 module _ (κs : Lfts 0) (a : ArgsD told.signature κs) (r q : ResD told.signature κs)

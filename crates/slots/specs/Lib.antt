@@ -3,3 +3,6 @@ pub mod Told
 pub mod Laid
 pub mod Slots
 pub mod Answers
+pub mod Groups
+pub mod Sheets
+pub mod Pools

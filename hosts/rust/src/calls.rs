@@ -97,4 +97,22 @@ calls! {
     to_first = bench_to_first(bytes: &[u8], out: &mut [u8], answer: &mut [u64],);
     /// Writes the text for a file of the second edition: how many bytes.
     listing_second = bench_listing_second(bytes: &[u8], out: &mut [u8], answer: &mut [u64],);
+    /// Judges any blocks with respect to groups: l11, l21, l12, l22.
+    grouped = bench_grouped(count: usize, v: usize, p: usize, blocks: &[u8], groups: &[u8], answer: &mut [u64],);
+    /// The grouped set of a design, in 2b words: v, b, r, p, l11, l21, l12, l22.
+    group_base = bench_group_base(n: usize, flag: usize, p: usize, m: usize, blocks: &[u8], g: usize, words: &mut [u64], answer: &mut [u64],);
+    /// Checks a sheet against the job's parts: whether it agrees, and where it first differs. With `has_spread` 0 it claims that there is no spread.
+    check_parts = bench_check_parts(n: usize, flag: usize, p: usize, m: usize, blocks: &[u8], readings: &[i32], set: u64, sum: i64, claims: &[i64],
+        has_spread: u64, spread: f64, freedom: u64, answer: &mut [u64],);
+    /// Checks a sheet against a job file: as [`check_parts`].
+    check_file = bench_check_file(bytes: &[u8], claims: &[i64], has_spread: u64, spread: f64, freedom: u64, answer: &mut [u64],);
+    /// Checks a sheet against a file of the second edition: as [`check_parts`].
+    check_second = bench_check_second(bytes: &[u8], claims: &[i64], has_spread: u64, spread: f64, freedom: u64, answer: &mut [u64],);
+    /// The b practice readings.
+    practice = bench_practice(n: usize, flag: usize, p: usize, m: usize, blocks: &[u8], truths: &[i32], start: u32, width: usize, readings: &mut [i32],);
+    /// Writes the file of a practice job: how many bytes.
+    practice_file = bench_practice_file(n: usize, flag: usize, p: usize, m: usize, blocks: &[u8], truths: &[i32], start: u32, width: usize, set: u64,
+        out: &mut [u8], answer: &mut [u64],);
+    /// The pooled spread of files laid end to end: as [`spread`].
+    pool = bench_pool(bytes: &[u8], lengths: &[usize], answer: &mut [u64], real: &mut [f64],);
 }

@@ -79,12 +79,19 @@ reasons! {
     OneStandard = 11,
     WrongEdition = 12,
     OptionalFields = 13,
+    BadGroups = 14,
+    WrongClaims = 15,
+    BadPractice = 16,
+    UnlikeJobs = 17,
+    BadLengths = 18,
 }
 
 /// A refusal: its reason, and its place in the file, or, in a call that takes no file, the index in its slice or the number that was asked for, modulo 2^48.
 #[derive(Debug, Clone, Copy, PartialEq, Eq)]
 pub struct Refusal {
     pub reason: Reason,
+    /// The job that [`pool`] refuses; 0 in every other call.
+    pub index: u8,
     pub place: u64,
 }
 
@@ -100,7 +107,7 @@ impl std::error::Error for Refusal {}
 pub fn refusal_in(returned: u64) -> Result<(), Refusal> {
     match returned {
         0 => Ok(()),
-        _ => Err(Refusal { reason: Reason::of(returned as u8), place: returned >> 16 }),
+        _ => Err(Refusal { reason: Reason::of(returned as u8), index: (returned >> 8) as u8, place: returned >> 16 }),
     }
 }
 
@@ -685,6 +692,224 @@ fn put(room: usize, call: impl FnOnce(&mut [u8], &mut [u64]) -> u64) -> Result<V
     refusal_in(call(&mut out, &mut answer))?;
     out.truncate(answer[0] as usize);
     Ok(out)
+}
+
+// ---- sets of blocks with groups
+
+/// How often two objects share a side, and how often they oppose, in blocks that are partially balanced with respect to groups; named as the paper names them.
+#[derive(Debug, Clone, Copy, PartialEq, Eq)]
+pub struct GroupCounts {
+    /// In how many blocks two objects of one group share a side.
+    pub l11: u64,
+    /// In how many they oppose.
+    pub l21: u64,
+    /// In how many blocks two objects of different groups share a side.
+    pub l12: u64,
+    /// In how many they oppose.
+    pub l22: u64,
+}
+
+/// The grouped set of a design: its parameters, and its blocks as words and as [`grouped`] takes them.
+#[derive(Debug, Clone, PartialEq, Eq)]
+pub struct GroupedSet {
+    pub v: usize,
+    pub b: usize,
+    /// In how many blocks each object stands.
+    pub r: u64,
+    pub p: usize,
+    pub counts: GroupCounts,
+    /// Left word, right word, block after block: one bit an object.
+    pub words: Vec<u64>,
+    /// The same blocks as lists: `p` left objects, which rise, then `p` right ones.
+    pub blocks: Vec<u8>,
+    /// For each object the number of its group: the object of the design that it comes from.
+    pub groups: Vec<u8>,
+}
+
+/// Judges any blocks over `v` objects with respect to groups: `blocks` has, for each, `p` left objects, then `p` right ones; `groups` has a label for each
+/// object. They are accepted exactly if each of the four counts is one number over all its pairs.
+///
+/// ```
+/// # use mass_bench::{grouped, GroupCounts, Reason};
+/// let four = [0, 1, 1, 2, 2, 3, 3, 0];
+/// let counts = grouped(4, 4, 1, &four, &[7, 9, 7, 9])?;
+/// assert_eq!(counts, GroupCounts { l11: 0, l21: 0, l12: 0, l22: 1 });
+/// assert_eq!(grouped(4, 4, 1, &four, &[7, 7, 9, 9]).unwrap_err().reason, Reason::Unbalanced);
+/// assert_eq!(grouped(4, 4, 1, &four, &[7, 7, 7, 9]).unwrap_err().reason, Reason::BadGroups);
+/// # Ok::<(), mass_bench::Refusal>(())
+/// ```
+pub fn grouped(count: usize, v: usize, p: usize, blocks: &[u8], groups: &[u8]) -> Result<GroupCounts, Refusal> {
+    let mut answer = [0; 4];
+    refusal_in(calls::grouped(count, v, p, blocks, groups, &mut answer))?;
+    Ok(group_counts(answer))
+}
+
+/// The grouped set of a balanced design: every object i replaced by its `g` members, gi to gi + g-1.
+///
+/// ```
+/// # use mass_bench::{group_base, grouped, Head};
+/// let set = group_base(Head { n: 3, flag: 0, p: 1, m: 1 }, &[0, 1], 2)?;
+/// assert_eq!((set.v, set.b, set.r, set.p), (6, 3, 2, 2));
+/// assert_eq!((set.words[0], set.words[1], &set.blocks[..4]), (0b000011, 0b001100, &[0, 1, 2, 3][..]));
+/// assert_eq!(grouped(set.b, set.v, set.p, &set.blocks, &set.groups)?, set.counts);
+/// # Ok::<(), mass_bench::Refusal>(())
+/// ```
+pub fn group_base(head: Head, blocks: &[u8], g: usize) -> Result<GroupedSet, Refusal> {
+    let Head { n, flag, p, m } = head;
+    let (mut words, mut answer) = (vec![0; WORDS], [0; 8]);
+    refusal_in(calls::group_base(n, flag, p, m, blocks, g, &mut words, &mut answer))?;
+    words.truncate(2 * head.blocks());
+    let [v, b, r, p, l11, l21, l12, l22] = answer;
+    let lists = words.iter().flat_map(|word| (0..64).filter(move |object| word >> object & 1 == 1)).collect();
+    let groups = (0..v as usize).map(|object| (object / g) as u8).collect();
+    Ok(GroupedSet { v: v as usize, b: b as usize, r, p: p as usize, counts: group_counts([l11, l21, l12, l22]), words, blocks: lists, groups })
+}
+
+fn group_counts([l11, l21, l12, l22]: [u64; 4]) -> GroupCounts {
+    GroupCounts { l11, l21, l12, l22 }
+}
+
+// ---- another laboratory's sheet
+
+/// What another laboratory claims of a job: for each object its published hundredths of a count; and the spread, or that there is none.
+#[derive(Debug, Clone, PartialEq)]
+pub struct Sheet {
+    pub hundredths: Vec<i64>,
+    /// None is right only where the job has no degree of freedom.
+    pub spread: Option<ClaimedSpread>,
+}
+
+/// A claimed spread in counts, with its degrees of freedom. It is right where it equals the job's own f64 as a number: no NaN does, -0.0 equals 0.0.
+#[derive(Debug, Clone, Copy, PartialEq)]
+pub struct ClaimedSpread {
+    pub value: f64,
+    pub freedom: u64,
+}
+
+/// What becomes of a sheet. That it differs is an answer and no refusal.
+#[derive(Debug, Clone, Copy, PartialEq, Eq)]
+pub enum Checked {
+    Agrees,
+    /// The first object whose claim differs, whatever else does.
+    Object(usize),
+    /// Every object's claim is right, the claimed spread is not.
+    Spread,
+}
+
+impl Sheet {
+    // The claims as the calls take them.
+    fn claimed(&self) -> (&[i64], u64, f64, u64) {
+        let (has_spread, value, freedom) = self.spread.map_or((0, 0.0, 0), |spread| (1, spread.value, spread.freedom));
+        (&self.hundredths, has_spread, value, freedom)
+    }
+
+    // What a call that is given these answers.
+    fn checked(&self, call: impl FnOnce(&[i64], u64, f64, u64, &mut [u64]) -> u64) -> Result<Checked, Refusal> {
+        let (claims, has_spread, value, freedom) = self.claimed();
+        let mut answer = [0; 2];
+        refusal_in(call(claims, has_spread, value, freedom, &mut answer))?;
+        Ok(match answer {
+            [1, _] => Checked::Agrees,
+            // the claims are one for each object, else they were refused
+            [_, object] if (object as usize) < claims.len() => Checked::Object(object as usize),
+            _ => Checked::Spread,
+        })
+    }
+}
+
+/// Checks a sheet against the published hundredths and the spread of its job.
+///
+/// ```
+/// # use mass_bench::{check, Checked, ClaimedSpread, Head, Sheet};
+/// let (head, blocks, readings) = (Head { n: 5, flag: 0, p: 2, m: 1 }, [1, 4, 2, 3], [11, -3, 4, 1, -8]);
+/// let mut sheet = Sheet { hundredths: vec![-30, 730, 190, 50, 510], spread: Some(ClaimedSpread { value: 2.23, freedom: 1 }) };
+/// assert_eq!(check(head, &blocks, &readings, 0b11, 7, &sheet)?, Checked::Agrees);
+/// sheet.spread = None;
+/// assert_eq!(check(head, &blocks, &readings, 0b11, 7, &sheet)?, Checked::Spread);
+/// sheet.hundredths[3] = 51;
+/// assert_eq!(check(head, &blocks, &readings, 0b11, 7, &sheet)?, Checked::Object(3));
+/// # Ok::<(), mass_bench::Refusal>(())
+/// ```
+pub fn check(head: Head, blocks: &[u8], readings: &[i32], set: u64, sum: i64, sheet: &Sheet) -> Result<Checked, Refusal> {
+    let Head { n, flag, p, m } = head;
+    sheet.checked(|claims, has_spread, value, freedom, answer| {
+        calls::check_parts(n, flag, p, m, blocks, readings, set, sum, claims, has_spread, value, freedom, answer)
+    })
+}
+
+/// Checks a sheet against a job file.
+pub fn check_file(bytes: &[u8], sheet: &Sheet) -> Result<Checked, Refusal> {
+    sheet.checked(|claims, has_spread, value, freedom, answer| calls::check_file(bytes, claims, has_spread, value, freedom, answer))
+}
+
+/// Checks a sheet against a file of the second edition.
+pub fn check_second(bytes: &[u8], sheet: &Sheet) -> Result<Checked, Refusal> {
+    sheet.checked(|claims, has_spread, value, freedom, answer| calls::check_second(bytes, claims, has_spread, value, freedom, answer))
+}
+
+// ---- practice: readings from weights whose values are known
+
+/// What practice readings are made from: the true value of each object, within 3,000 counts of 0; any start number for the noise; and its width, 0 to 8 bits.
+#[derive(Debug, Clone, PartialEq, Eq)]
+pub struct Practice {
+    pub truths: Vec<i32>,
+    pub start: u32,
+    /// With 0 there is no noise: the exact values of the practice job are the true ones.
+    pub width: usize,
+}
+
+/// The practice readings of a design, one for each block: the left sum of the true values less the right sum, plus noise.
+///
+/// ```
+/// # use mass_bench::{practice, Head, Practice};
+/// let (head, blocks) = (Head { n: 5, flag: 0, p: 2, m: 1 }, [1, 4, 2, 3]);
+/// let truths = vec![1, 2, 3, 4, 5];
+/// assert_eq!(practice(head, &blocks, &Practice { truths: truths.clone(), start: 9, width: 0 })?, [0, -5, 0, 5, 0]);
+/// assert_eq!(practice(head, &blocks, &Practice { truths, start: 0, width: 8 })?, [-68, -62, 81, 47, -30]);
+/// # Ok::<(), mass_bench::Refusal>(())
+/// ```
+pub fn practice(head: Head, blocks: &[u8], from: &Practice) -> Result<Vec<i32>, Refusal> {
+    let Head { n, flag, p, m } = head;
+    let mut readings = vec![0; DEVIATIONS];
+    refusal_in(calls::practice(n, flag, p, m, blocks, &from.truths, from.start, from.width, &mut readings))?;
+    readings.truncate(head.blocks());
+    Ok(readings)
+}
+
+/// The file of a practice job: those readings, restrained by a set to its true sum.
+///
+/// ```
+/// # use mass_bench::{practice_file, solve, Head, Practice};
+/// let file = practice_file(Head { n: 5, flag: 0, p: 2, m: 1 }, &[1, 4, 2, 3], &Practice { truths: vec![1, 2, 3, 4, 5], start: 9, width: 0 }, 0b11)?;
+/// let job = solve(&file)?;
+/// assert_eq!((job.values, job.solved.denominator, job.deviations), (vec![10, 20, 30, 40, 50], 10, vec![0; 5]));
+/// # Ok::<(), mass_bench::Refusal>(())
+/// ```
+pub fn practice_file(head: Head, blocks: &[u8], from: &Practice, set: u64) -> Result<Vec<u8>, Refusal> {
+    let Head { n, flag, p, m } = head;
+    put(FILE, |out, answer| calls::practice_file(n, flag, p, m, blocks, &from.truths, from.start, from.width, set, out, answer))
+}
+
+// ---- several jobs
+
+/// The pooled spread of up to 64 job files of one v and beta; the objects a side may differ. Their order makes no difference, and one job gives what [`spread`]
+/// gives of it.
+///
+/// ```
+/// # use mass_bench::{pool, write, Head, Reason};
+/// let head = Head { n: 5, flag: 0, p: 2, m: 1 };
+/// let [one, other] = [[11, -3, 4, 1, -8], [0; 5]].map(|readings| write(head, &[1, 4, 2, 3], 0b11, 7, &readings).unwrap());
+/// let pooled = pool(&[&one, &other])?;
+/// assert_eq!((pooled.q, pooled.vbeta, pooled.freedom, pooled.spread.unwrap().hundredths), (25, 5, 2, 158));
+/// let refusal = pool(&[&one, &other[..55]]).unwrap_err();
+/// assert_eq!((refusal.reason, refusal.index, refusal.place), (Reason::PastTheEnd, 1, 33));
+/// # Ok::<(), mass_bench::Refusal>(())
+/// ```
+pub fn pool(files: &[&[u8]]) -> Result<Spreading, Refusal> {
+    let lengths: Vec<usize> = files.iter().map(|file| file.len()).collect();
+    let (mut answer, mut real) = ([0; 6], [0.0]);
+    refusal_in(calls::pool(&files.concat(), &lengths, &mut answer, &mut real))?;
+    Ok(spreading(answer, real))
 }
 
 // ---- slots

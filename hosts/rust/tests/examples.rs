@@ -20,7 +20,7 @@ const SUM: i64 = 7;
 const C: Head = Head { n: 4, flag: 0, p: 1, m: 1 };
 
 fn refused<T>(reason: Reason, place: u64) -> Result<T, Refusal> {
-    Err(Refusal { reason, place })
+    Err(Refusal { reason, index: 0, place })
 }
 
 // ---- designs
@@ -230,7 +230,7 @@ fn files_are_read_and_solved() {
     assert_eq!(read(&example("A.job")), Ok(a));
     assert_eq!(read(&[]), refused(Reason::PastTheEnd, 0));
     let refusal = solve(&example("K-byte-added.job")).unwrap_err();
-    assert_eq!(refusal, Refusal { reason: Reason::BytesFollow, place: 56 });
+    assert_eq!(refusal, Refusal { reason: Reason::BytesFollow, index: 0, place: 56 });
     assert_eq!(refusal.to_string(), "refused 9 56");
     let e = solve(&example("E.job")).unwrap().solved.spreading;
     assert_eq!((e.freedom, e.spread), (0, None));
@@ -567,4 +567,289 @@ fn names_of_the_second_edition() {
     assert_eq!(to_first(&file), refused(Reason::OptionalFields, 60));
     assert_eq!(listing_second(&file), listing(&example("A.job")));
     assert_eq!(write_second(A, &BLOCKS, SET, SUM, &READINGS, &names[1..]), refused(Reason::WrongLength, 0));
+}
+
+// ---- sets of blocks with groups
+
+#[test]
+fn blocks_are_judged_with_respect_to_groups() {
+    let four = [0, 1, 1, 2, 2, 3, 3, 0];
+    let counts = |l11, l21, l12, l22| Ok(GroupCounts { l11, l21, l12, l22 });
+    // a label is any byte, and only equality counts
+    for groups in [[0, 1, 0, 1], [1, 0, 1, 0], [255, 0, 255, 0], [9, 200, 9, 200]] {
+        assert_eq!(grouped(4, 4, 1, &four, &groups), counts(0, 0, 0, 1), "{groups:?}");
+    }
+    let all = [&four[..], &[0, 2, 1, 3, 2, 0, 3, 1]].concat();
+    assert_eq!(grouped(8, 4, 1, &all, &[0, 1, 0, 1]), counts(0, 2, 0, 1));
+    assert_eq!(grouped(8, 4, 1, &all, &[0, 0, 1, 1]), refused(Reason::Unbalanced, 0));
+    // 4, 3, 14, 5, 6
+    assert_eq!(grouped(0, 4, 1, &[], &[]), refused(Reason::BrokenSize, 0));
+    assert_eq!(grouped(1301, 4, 1, &[], &[]), refused(Reason::BrokenSize, 0));
+    assert_eq!(grouped(4, 51, 1, &four, &[]), refused(Reason::BrokenSize, 0));
+    assert_eq!(grouped(4, 4, 3, &four, &[]), refused(Reason::BrokenSize, 0));
+    assert_eq!(grouped(4, 4, usize::MAX / 2 + 1, &[], &[0; 4]), refused(Reason::BrokenSize, 0));
+    assert_eq!(grouped(4, 4, 1, &four[1..], &[0; 4]), refused(Reason::WrongLength, 0));
+    assert_eq!(grouped(4, 4, 1, &four, &[0; 5]), refused(Reason::WrongLength, 0));
+    let stray = [0, 255, 1, 2, 2, 3, 3, 0];
+    for groups in [[0, 0, 0, 0], [0, 0, 0, 1], [0, 1, 2, 3], [0, 0, 1, 2]] {
+        assert_eq!(grouped(4, 4, 1, &stray, &groups), refused(Reason::BadGroups, 0), "{groups:?}");
+    }
+    assert_eq!(grouped(4, 4, 1, &stray, &[0, 0, 1, 1]), refused(Reason::BadObject, 1));
+    assert_eq!(grouped(4, 4, 1, &[0, 1, 1, 2, 2, 2, 3, 0], &[0, 0, 1, 1]), refused(Reason::BadObject, 5));
+}
+
+#[test]
+fn grouped_sets_compose() {
+    for (head, blocks, g) in [
+        (A, &BLOCKS[..], 2),
+        (A, &BLOCKS, 10),
+        (Head { n: 7, flag: 1, p: 4, m: 1 }, &[255, 1, 2, 4, 0, 3, 5, 6], 6),
+        (Head { n: 9, flag: 2, p: 4, m: 1 }, &[1, 7, 2, 5, 3, 8, 6, 4], 5),
+        (Head { n: 9, flag: 3, p: 5, m: 2 }, &[255, 1, 7, 2, 5, 0, 3, 8, 6, 4, 0, 1, 7, 2, 5, 255, 3, 8, 6, 4], 5),
+    ] {
+        let (base, set) = (judge(head, blocks).unwrap(), group_base(head, blocks, g).unwrap());
+        assert_eq!((set.v, set.b, set.r, set.p), (g * base.v as usize, base.b as usize, base.r, g * base.p as usize), "{head:?} by {g}");
+        assert_eq!(set.counts, GroupCounts { l11: base.r, l21: 0, l12: base.l1, l22: base.l2 }, "{head:?} by {g}");
+        assert_eq!(grouped(set.b, set.v, set.p, &set.blocks, &set.groups), Ok(set.counts), "{head:?} by {g}");
+        // each bit of a base word is g bits
+        for (word, grown) in develop(head, blocks).unwrap().into_iter().zip(&set.words) {
+            let wanted: u64 = (0..50).filter(|object| word >> object & 1 == 1).map(|object| ((1 << g) - 1) << (g * object)).sum();
+            assert_eq!(*grown, wanted, "{head:?} by {g}");
+        }
+    }
+    for g in [0, 1, 11, 1 << 63, usize::MAX] {
+        assert_eq!(group_base(A, &[1, 4, 2, 4], g), refused(Reason::BadGroups, 0), "by {g}");
+        assert_eq!(group_base(A, &[1, 4, 2], g), refused(Reason::WrongLength, 0), "by {g}");
+    }
+    assert_eq!(group_base(A, &[1, 4, 2, 4], 2), refused(Reason::BadObject, 3));
+    assert_eq!(group_base(C, &[0, 1], 2), refused(Reason::Unbalanced, 0));
+    assert_eq!(group_base(Head { n: 51, ..C }, &[0, 1], 2), refused(Reason::BrokenSize, 0));
+}
+
+#[test]
+fn rooms_and_slots_of_grouped_sets() {
+    let Head { n, flag, p, m } = A;
+    let four = [0, 1, 1, 2, 2, 3, 3, 0];
+    lent("grouped", WORD, &[0, 0, 0, 1], |answer| calls::grouped(4, 4, 1, &four, &[0, 1, 0, 1], answer));
+    stays("grouped", WORD, 6, 0, |answer| calls::grouped(4, 4, 1, &four, &[0, 0, 1, 1], answer));
+    let set = group_base(A, &BLOCKS, 2).unwrap();
+    lent("group_base", WORD, &set.words, |words| calls::group_base(n, flag, p, m, &BLOCKS, 2, words, &mut [0; 8]));
+    lent("group_base", WORD, &[10, 5, 4, 4, 4, 0, 1, 2], |answer| calls::group_base(n, flag, p, m, &BLOCKS, 2, &mut [0; 10], answer));
+    stays("group_base", WORD, 14, 0, |words| calls::group_base(n, flag, p, m, &BLOCKS, 1, words, &mut [0; 8]));
+}
+
+// ---- another laboratory's sheet
+
+/// The sheet of example A.
+fn sheet_of_a() -> Sheet {
+    Sheet { hundredths: vec![-30, 730, 190, 50, 510], spread: Some(ClaimedSpread { value: 2.23, freedom: 1 }) }
+}
+
+/// The same of its parts, of its file, and of its file of the second edition.
+fn checked(sheet: &Sheet) -> Result<Checked, Refusal> {
+    let a = example("A.job");
+    let answer = check(A, &BLOCKS, &READINGS, SET, SUM, sheet);
+    assert_eq!((check_file(&a, sheet), check_second(&to_second(&a).unwrap(), sheet)), (answer, answer), "{sheet:?}");
+    answer
+}
+
+#[test]
+fn sheets_are_checked() {
+    assert_eq!(checked(&sheet_of_a()), Ok(Checked::Agrees));
+    for object in 0..5 {
+        for by in [1, -1, 1 << 32, 1 << 53, i64::MIN] {
+            let mut sheet = sheet_of_a();
+            sheet.hundredths[object] = sheet.hundredths[object].wrapping_add(by);
+            assert_eq!(checked(&sheet), Ok(Checked::Object(object)), "object {object} by {by}");
+            // the first that differs is named, and the objects come before the spread
+            sheet.hundredths[4] -= 7;
+            sheet.spread = None;
+            assert_eq!(checked(&sheet), Ok(Checked::Object(object)), "object {object} by {by}");
+        }
+    }
+    let spread = |value, freedom| checked(&Sheet { spread: Some(ClaimedSpread { value, freedom }), ..sheet_of_a() });
+    for value in [2.22, 2.24, 2.23f64.next_up(), 2.23f64.next_down(), -2.23, 223.0, 0.0, f64::NAN, f64::INFINITY] {
+        assert_eq!(spread(value, 1), Ok(Checked::Spread), "{value}");
+    }
+    for freedom in [0, 2, 1 << 32 | 1, u64::MAX] {
+        assert_eq!(spread(2.23, freedom), Ok(Checked::Spread), "{freedom}");
+    }
+    assert_eq!(checked(&Sheet { spread: None, ..sheet_of_a() }), Ok(Checked::Spread));
+}
+
+#[test]
+fn none_is_claimed_only_with_no_degree_of_freedom() {
+    // every reading 0: a spread of 0, which is not none
+    let (pairs, zeros) = (Head { n: 5, flag: 0, p: 1, m: 2 }, Sheet { hundredths: vec![0; 5], spread: None });
+    let of = |spread| check(pairs, &[0, 1, 0, 2], &[0; 10], SET, 0, &Sheet { spread, ..zeros.clone() });
+    assert_eq!(of(None), Ok(Checked::Spread));
+    for (value, answer) in [(0.0, Checked::Agrees), (-0.0, Checked::Agrees), (f64::from_bits(1), Checked::Spread), (0.01, Checked::Spread)] {
+        assert_eq!(of(Some(ClaimedSpread { value, freedom: 6 })), Ok(answer), "{value:?}");
+    }
+    // example E has no degree of freedom
+    let e = Head { n: 7, flag: 1, p: 4, m: 1 };
+    let of = |spread| check(e, &[255, 1, 2, 4, 0, 3, 5, 6], &[0; 7], SET, 0, &Sheet { hundredths: vec![0; 8], spread });
+    assert_eq!(of(None), Ok(Checked::Agrees));
+    assert_eq!(of(Some(ClaimedSpread { value: 0.0, freedom: 0 })), Ok(Checked::Spread));
+}
+
+#[test]
+fn sheets_are_refused() {
+    for hundredths in [vec![], vec![-30, 730, 190, 50], vec![-30, 730, 190, 50, 510, 0]] {
+        assert_eq!(checked(&Sheet { hundredths, ..sheet_of_a() }), refused(Reason::WrongClaims, 0));
+    }
+    // the job's own come first
+    let none = Sheet { hundredths: vec![], spread: None };
+    assert_eq!(check(A, &BLOCKS, &[0, 0, 0, 0, 200_000_001], SET, SUM, &none), refused(Reason::BadReading, 4));
+    assert_eq!(check(C, &[0, 1], &[0; 4], SET, SUM, &none), refused(Reason::Unbalanced, 0));
+    assert_eq!(check_file(&example("K-byte-added.job"), &none), refused(Reason::BytesFollow, 56));
+    assert_eq!(check_second(&example("A.job"), &none), refused(Reason::WrongTag, 0));
+}
+
+#[test]
+fn slots_of_sheets() {
+    let (Head { n, flag, p, m }, a) = (A, example("A.job"));
+    let (b, y, claims) = (&BLOCKS[..], &READINGS[..], sheet_of_a().hundredths);
+    lent("check_parts", WORD, &[1, 0], |answer| calls::check_parts(n, flag, p, m, b, y, SET, SUM, &claims, 1, 2.23, 1, answer));
+    lent("check_file", WORD, &[0, 5], |answer| calls::check_file(&a, &claims, 0, 2.23, 1, answer));
+    lent("check_second", WORD, &[1, 0], |answer| calls::check_second(&to_second(&a).unwrap(), &claims, u64::MAX, 2.23, 1, answer));
+    stays("check_parts", WORD, 15, 0, |answer| calls::check_parts(n, flag, p, m, b, y, SET, SUM, &claims[1..], 1, 2.23, 1, answer));
+    stays("check_file", WORD, 15, 0, |answer| calls::check_file(&a, &claims[1..], 1, 2.23, 1, answer));
+    stays("check_second", WORD, 2, 0, |answer| calls::check_second(&a, &claims[1..], 1, 2.23, 1, answer));
+}
+
+// ---- practice
+
+const TRUTHS: [i32; 5] = [1, 2, 3, 4, 5];
+
+fn from(truths: &[i32], start: u32, width: usize) -> Practice {
+    Practice { truths: truths.to_vec(), start, width }
+}
+
+#[test]
+fn practice_readings_come_from_true_values() {
+    // the generator from 0: 3C6EF35F, 47502932, D1CCF6E9, AAF95334, 6252E503; its top bits less half of their range
+    for (width, noise) in [(0, [0; 5]), (1, [-1, -1, 0, 0, -1]), (4, [-5, -4, 5, 2, -2]), (8, [-68, -57, 81, 42, -30])] {
+        let wanted: Vec<i32> = [0, -5, 0, 5, 0].iter().zip(noise).map(|(exact, noise)| exact + noise).collect();
+        assert_eq!(practice(A, &BLOCKS, &from(&TRUTHS, 0, width)), Ok(wanted), "width {width}");
+    }
+    // without noise any start number gives the same
+    for start in [0, 1, u32::MAX] {
+        assert_eq!(practice(A, &BLOCKS, &from(&TRUTHS, start, 0)).unwrap(), [0, -5, 0, 5, 0], "start {start}");
+    }
+    // stepped once before it is used: from the first number on, the second block's noise comes first
+    assert_eq!(practice(A, &BLOCKS, &from(&[0; 5], 0x3C6E_F35F, 8)).unwrap()[..4], [-57, 81, 42, -30]);
+    assert!(practice(A, &BLOCKS, &from(&[3_000, -3_000, 3_000, -3_000, 3_000], 1, 8)).unwrap().iter().all(|reading| reading.abs() <= 12_128));
+}
+
+#[test]
+fn practice_is_refused() {
+    let bad = from(&[0, 0, 3_001, 0, 0], 0, 9);
+    assert_eq!(practice(Head { p: 3, ..A }, &BLOCKS, &bad), refused(Reason::BrokenSize, 0));
+    assert_eq!(practice(A, &BLOCKS[1..], &bad), refused(Reason::WrongLength, 0));
+    assert_eq!(practice(A, &[1, 4, 2, 4], &from(&bad.truths[1..], 0, 0)), refused(Reason::WrongLength, 0));
+    assert_eq!(practice(A, &[1, 4, 2, 4], &bad), refused(Reason::BadObject, 3));
+    assert_eq!(practice(A, &[1, 4, 2, 0], &bad), refused(Reason::Unbalanced, 0));
+    let (high, low, far) = ([0, 0, 0, 0, 3_001], [-3_001, 0, 0, 0, 0], [i32::MIN; 5]);
+    for bad in [from(&high, 0, 0), from(&low, 0, 0), from(&far, 0, 0), from(&TRUTHS, 0, 9), from(&TRUTHS, 0, 1 << 32)] {
+        assert_eq!(practice(A, &BLOCKS, &bad), refused(Reason::BadPractice, 0), "{bad:?}");
+        // after 6, before 7 and 11
+        assert_eq!(practice_file(A, &BLOCKS, &bad, 0), refused(Reason::BadPractice, 0), "{bad:?}");
+        assert_eq!(practice_file(A, &[1, 4, 2, 0], &bad, 0), refused(Reason::Unbalanced, 0), "{bad:?}");
+    }
+    assert!(practice(A, &BLOCKS, &from(&[3_000, -3_000, 0, 0, 0], 0, 8)).is_ok());
+    for (set, reason) in [(0, Reason::BadRestraint), (32, Reason::BadRestraint), (33, Reason::BadRestraint), (16, Reason::OneStandard)] {
+        assert_eq!(practice_file(A, &BLOCKS, &from(&TRUTHS, 0, 0), set), refused(reason, 0), "set {set}");
+    }
+}
+
+#[test]
+fn practice_jobs_are_written() {
+    for (set, sum, width) in [(0b11, 3, 0), (0b10001, 6, 0), (0b11111, 15, 0), (0b10110, 10, 8)] {
+        let file = practice_file(A, &BLOCKS, &from(&TRUTHS, 7, width), set).unwrap();
+        assert_eq!(file, write(A, &BLOCKS, set, sum, &practice(A, &BLOCKS, &from(&TRUTHS, 7, width)).unwrap()).unwrap(), "set {set}");
+        if width == 0 {
+            let job = solve(&file).unwrap();
+            let (found, denominator) = (job.values, job.solved.denominator as i64);
+            assert_eq!(found, TRUTHS.map(|truth| i64::from(truth) * denominator), "set {set}");
+            assert_eq!((job.deviations, job.solved.spreading.q), (vec![0; 5], 0), "set {set}");
+        }
+    }
+}
+
+#[test]
+fn rooms_of_practice() {
+    let Head { n, flag, p, m } = A;
+    lent("practice", -77, &[0, -5, 0, 5, 0], |readings| calls::practice(n, flag, p, m, &BLOCKS, &TRUTHS, 9, 0, readings));
+    stays("practice", -77, 16, 0, |readings| calls::practice(n, flag, p, m, &BLOCKS, &TRUTHS, 9, 9, readings));
+    let file = practice_file(A, &BLOCKS, &from(&TRUTHS, 9, 8), SET).unwrap();
+    lent("practice_file", BYTE, &file, |out| calls::practice_file(n, flag, p, m, &BLOCKS, &TRUTHS, 9, 8, SET, out, &mut [0; 2]));
+    lent("practice_file", WORD, &[56], |answer| calls::practice_file(n, flag, p, m, &BLOCKS, &TRUTHS, 9, 8, SET, &mut [0; 60], answer));
+    stays("practice_file", BYTE, 11, 0, |out| calls::practice_file(n, flag, p, m, &BLOCKS, &TRUTHS, 9, 8, 1, out, &mut [0; 2]));
+}
+
+// ---- several jobs
+
+#[test]
+fn jobs_are_pooled() {
+    let (a, b, e, h) = (example("A.job"), example("B.job"), example("E.job"), example("H.job"));
+    assert_eq!(pool(&[&a]), spread(A, &BLOCKS, &READINGS));
+    assert_eq!(pool(&[&h]).unwrap(), solve(&h).unwrap().solved.spreading);
+    let still = write(A, &BLOCKS, SET, SUM, &[0; 5]).unwrap();
+    let pooled = Spreading { q: 25, vbeta: 5, freedom: 2, spread: Some(Spread { hundredths: 158, value: 1.58 }) };
+    assert_eq!((pool(&[&a, &still]), pool(&[&still, &a])), (Ok(pooled), Ok(pooled)));
+    let many = pool(&[&a[..]; 64]).unwrap();
+    assert_eq!((many.q, many.freedom, many.spread.unwrap().hundredths), (1600, 64, 223));
+    // no degree of freedom counts and adds nothing
+    assert_eq!(pool(&[&e, &e]), Ok(Spreading { q: 0, vbeta: 8, freedom: 0, spread: None }));
+    // one a side, with the v and beta of E, which has four a side
+    let objects = [0, 1, 0, 2, 0, 3, 255, 0];
+    let pairs = write(Head { n: 7, flag: 1, p: 1, m: 4 }, &objects, SET, 0, &[1; 28]).unwrap();
+    assert_eq!(pool(&[&e, &pairs, &e]), pool(&[&pairs]));
+    // the low words carry: three objects opposed nine times over
+    let nine = write(Head { n: 3, flag: 0, p: 1, m: 9 }, &[0, 1].repeat(9), SET, 0, &[200_000_000; 27]).unwrap();
+    let wide = pool(&[&nine[..]; 64]).unwrap();
+    assert_eq!((wide.q, wide.freedom, wide.spread.unwrap().hundredths), (64 * 29_160_000_000_000_000_000, 1600, 20_784_609_690));
+    for (files, number, index, place) in [
+        (vec![], 18, 0, 0),
+        (vec![&a[..]; 65], 18, 0, 0),
+        (vec![&a, &[]], 1, 1, 0),
+        (vec![&a, &a, &a[..55]], 1, 2, 33),
+        (vec![&a, &b, &a[..55]], 1, 2, 33),
+        (vec![&a, &a, &b, &e], 17, 2, 0),
+        (vec![&e, &a], 17, 1, 0),
+    ] {
+        let refusal = pool(&files).unwrap_err();
+        assert_eq!((refusal.reason.number(), refusal.index, refusal.place), (number, index, place), "{} files", files.len());
+    }
+    // another beta: the same pairs twice
+    let twice = write(Head { n: 7, flag: 1, p: 1, m: 8 }, &objects.repeat(2), SET, 0, &[1; 56]).unwrap();
+    assert_eq!(pool(&[&pairs, &twice]), Err(Refusal { reason: Reason::UnlikeJobs, index: 1, place: 0 }));
+}
+
+#[test]
+fn lengths_must_add_up() {
+    let two = example("A.job").repeat(2);
+    let pooled = |lengths: &[usize]| calls::pool(&two, lengths, &mut [0; 6], &mut [0.0]);
+    assert_eq!(pooled(&[56, 56]), 0);
+    for lengths in [&[][..], &[56], &[112, 1], &[56, 55], &[56, 57], &[56 + (1 << 63), 56 + (1 << 63)], &[113, usize::MAX], &[56 + (1 << 32), 56]] {
+        assert_eq!(pooled(lengths), 18, "{lengths:?}");
+    }
+    // they add up, and cut the files wrongly: the job's own refusal, at its own place
+    assert_eq!(pooled(&[112]), 9 + (56 << 16));
+    assert_eq!(pooled(&[55, 57]), 1 + (33 << 16));
+    assert_eq!(pooled(&[56, 0, 56]), 1 + (1 << 8));
+    assert_eq!(pooled(&[56, 56, 0]), 1 + (2 << 8));
+}
+
+#[test]
+fn slots_of_pools() {
+    let a = example("A.job");
+    slots(
+        "pool",
+        (vec![], vec![0, 25, 5, 1, 223, 1], vec![2.23]),
+        |_, answer, real| calls::pool(&a, &[56], answer, real),
+        17 + (1 << 8),
+        |_, answer, real| calls::pool(&[&a[..], &example("E.job")].concat(), &[56, example("E.job").len()], answer, real),
+    );
 }

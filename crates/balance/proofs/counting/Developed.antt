@@ -1,8 +1,8 @@
 -- What a development into a room of 2,600 words leaves: its verdict is that of the block list, its words can be counted, and the tables counted in
 -- them are those of the design. Assumes nothing.
-use Prim.Native.Nat.{ℕ, _*_, _<_}
+use Prim.Native.Nat.{ℕ, _*_, _≤_, _<_}
 use mathlib.Core.Path.{_≡_, refl, sym, ap, _∙_}
-use mathlib.Core.Bool.{Bool, true, false, cond}
+use mathlib.Core.Bool.{Bool, true, false}
 use mathlib.Core.List.{List}
 use native.Mathlib.Omega.{arith}
 use borrow.Author.Tests.{le-leb}
@@ -12,13 +12,12 @@ use Rattle.algebra.proofs.Filling.{length-over, getD-over}
 use Rattle.records.specs.declared.Head.{Head}
 use Rattle.records.specs.declared.Verdict.{Verdict}
 use Rattle.records.specs.declared.Verdict.the-variants.{Accepted, Refused}
-use Rattle.meaning.specs.Design.{blocks}
+use Rattle.meaning.specs.Design.{objects, blocks, left, right, company, opposition}
 use Rattle.meaning.specs.Refusals.{accepted, test, _⨾_, room}
-use Rattle.meaning.specs.Calls.{wordAt, designVerdict, developVerdict, wordsUnder, noTable, companyTable, oppositionTable}
+use Rattle.meaning.specs.Calls.{wordAt, designVerdict, developVerdict, wordsUnder, companyTable, oppositionTable}
 use Rattle.laws.proofs.Chains.{sound, given-yes}
-use Rattle.balance.specs.Meetings.{tableMore, tally, countable, counted}
-use Rattle.balance.proofs.counting.Countable.{is-countable}
-use Rattle.balance.proofs.counting.Counted.{words-below, word-parts, company-counted, opposition-counted}
+use Rattle.balance.specs.Meetings.{counted}
+use Rattle.balance.proofs.counting.Counted.{company-counted, opposition-counted, design-blocks}
 
 module _ (h : Head) (d : List ℕ) where
   -- room for 2,600 words is always enough
@@ -39,23 +38,18 @@ module _ (h : Head) (d : List ℕ) where
     at c m = let f = sound h d e .sizes in
         ap (λ (t : List ℕ). getD t c 0) words-left ∙ getD-over (2 * blocks h) (wordAt h d) l 0 c m (omega arith)
 
-    can : countable ws (blocks h) ≡ true
-    can =
-        let s = sound h d e in
-        let f = s .sizes in
-        is-countable ws (blocks h) (record {
-          blocks-most = f .blocks-most;
-          words-long = omega (arith, ap length words-left, length-over (2 * blocks h) (wordAt h d) l);
-          below = word-parts ws (blocks h) (words-below h d s ws at);
-        })
+    words-long : 2 * blocks h ≤ length ws
+    words-long = let f = sound h d e .sizes in omega (arith, ap length words-left, length-over (2 * blocks h) (wordAt h d) l)
 
     -- the tables counted in them are those of the design
     pub company-table : counted false ws (blocks h) ≡ companyTable h d
-    unfolding counted
-    company-table = ap (λ (t : Bool). cond t (tableMore (tally false ws (blocks h)) noTable) noTable) can
-        ∙ company-counted h d (sound h d e) ws at refl ∙ sym (given-yes (designVerdict h d) _ _ e)
+    unfolding company
+    company-table = let s = sound h d e in
+        company-counted (blocks h) (objects h) (left h d) (right h d) ws (design-blocks h d s ws at) (s .sizes .blocks-most) words-long
+        ∙ sym (given-yes (designVerdict h d) _ _ e)
 
     pub opposition-table : counted true ws (blocks h) ≡ oppositionTable h d
-    unfolding counted
-    opposition-table = ap (λ (t : Bool). cond t (tableMore (tally true ws (blocks h)) noTable) noTable) can
-        ∙ opposition-counted h d (sound h d e) ws at refl ∙ sym (given-yes (designVerdict h d) _ _ e)
+    unfolding opposition
+    opposition-table = let s = sound h d e in
+        opposition-counted (blocks h) (objects h) (left h d) (right h d) ws (design-blocks h d s ws at) (s .sizes .blocks-most) words-long
+        ∙ sym (given-yes (designVerdict h d) _ _ e)

@@ -23,7 +23,7 @@ returns-5 : tie.Need-returns-5
 returns-5 c =
     let q = c .before .before .before .before .before .args .q in
     sym (is-ranged _ _ _ (record {
-      q-most = fewer (2 ^ 64) (q .high) 8192 (q .low) 0 (omega arith) (omega arith);
+      q-most = fewer (2 ^ 64) (q .high) 524288 (q .low) 0 (omega arith) (omega arith);
       vbeta-some = omega arith;
       vbeta-most = omega arith;
       freedom-most = omega arith;

@@ -1,0 +1,2 @@
+-- The sizes of groups, counted object by object.
+pub mod Sizes

@@ -1,0 +1,2 @@
+-- The words of a list of blocks.
+pub mod Words

@@ -1,0 +1,2 @@
+-- What the private functions speak of.
+pub mod Drawn

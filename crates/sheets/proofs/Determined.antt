@@ -1,0 +1,40 @@
+-- Any two outcomes that keep the promise of a public function are identical: the answer and what each lent buffer holds at the end. `Post` is the
+-- contract itself, as the check reads it from the source: where a clause of it is dropped or weakened, the theorem fails. Assumes nothing.
+-- (tools/determined.py writes this file.)
+use mathlib.Core.Path.{_≡_, sym, _∙_}
+use contract.Lifetimes.{Lfts}
+use denote.Ref.{now}
+use borrow.Fn.World.{ArgsD, ResD}
+use borrow.Fn.Kinds.{endedOf}
+use denote.Triple.Clauses.{AtExit}
+use Rattle.sheets.proofs.claimed.claimed_spread as claimed-spread
+use Rattle.sheets.proofs.claimed.claimed_spread.Kinds as claimed-spread-kinds
+use Rattle.sheets.proofs.claimed.claimed_spread.Reads as claimed-spread-reads
+use Rattle.sheets.proofs.pieces.same as same
+use Rattle.sheets.proofs.pieces.same.Kinds as same-kinds
+use Rattle.sheets.proofs.pieces.same.Reads as same-reads
+use Rattle.sheets.proofs.sheet.read_sheet as read-sheet
+use Rattle.sheets.proofs.sheet.read_sheet.Kinds as read-sheet-kinds
+use Rattle.sheets.proofs.sheet.read_sheet.Reads as read-sheet-reads
+
+-- `claimed_spread`: the answer
+module _ (κs : Lfts 0) (a : ArgsD claimed-spread.signature κs) (r q : ResD claimed-spread.signature κs)
+    (s t : AtExit (endedOf 0 claimed-spread-kinds.ps claimed-spread-kinds.r) κs) where
+  pub claimed-spread-determined : claimed-spread-reads.Post κs a r s → claimed-spread-reads.Post κs a q t →
+      r ≡ q
+  claimed-spread-determined p e = p ∙ sym e
+
+-- `same`: the answer
+module _ (κs : Lfts 2) (a : ArgsD same.signature κs) (r q : ResD same.signature κs)
+    (s t : AtExit (endedOf 2 same-kinds.ps same-kinds.r) κs) where
+  pub same-determined : same-reads.Post κs a r s → same-reads.Post κs a q t →
+      r ≡ q
+  same-determined p e = p ∙ sym e
+
+-- `read_sheet`: the answer, `claims`
+module _ (κs : Lfts 2) (a : ArgsD read-sheet.signature κs) (r q : ResD read-sheet.signature κs)
+    (s t : AtExit (endedOf 2 read-sheet-kinds.ps read-sheet-kinds.r) κs) where
+  pub read-sheet-determined : read-sheet-reads.Post κs a r s → read-sheet-reads.Post κs a q t →
+      (r ≡ q)
+      × (now (s .1 .0) ≡ now (t .1 .0))
+  read-sheet-determined p e = (p .0 ∙ sym (e .0), p .1 ∙ sym (e .1))

@@ -1,0 +1,2 @@
+-- The laws of a claimed spread.
+pub mod Spreads

@@ -1,0 +1,2 @@
+-- The laws of a line's cases.
+pub mod Cases

@@ -1,0 +1,231 @@
+//! The program's verbs on many files, against the count: what it prints, and how what it says on standard error begins.
+//!
+//! `check JOB SHEET`: jobs of both editions, some refused, with sheets as text: a listing's own lines, in other order and among others, and wrong in one place.
+
+use crate::damage;
+use crate::job::{self, Job};
+use crate::listing;
+use crate::second;
+use crate::seed::Seed;
+use crate::solve::{solve, Results};
+use std::collections::BTreeMap;
+use std::fs;
+use std::path::PathBuf;
+use std::process::{Command, Stdio};
+
+/// What a verb prints, the word with which standard error begins, none where nothing is said there, and words that it must hold too.
+struct Expected {
+    printed: Vec<u8>,
+    begins: &'static str,
+    holds: String,
+}
+
+fn printed(text: String) -> Expected {
+    let begins = ["refused", "differs"].into_iter().find(|word| text.starts_with(word)).unwrap_or("");
+    Expected { printed: text.into_bytes(), begins, holds: String::new() }
+}
+
+/// The number of trials on which the program fails.
+pub fn compare(program: &[String], seed: u64, count: u64) -> u64 {
+    let room = std::env::temp_dir().join(format!("count-verbs-{}", std::process::id()));
+    fs::create_dir_all(&room).expect("room for files");
+    let (mut failed, mut alike) = (0, BTreeMap::new());
+    for index in 0..count {
+        let mut source = Seed::new(seed, index);
+        let (about, files, expected) = check(seed, index, &mut source);
+        match run(program, &room, "check", &files, &expected) {
+            Ok(()) => *alike.entry(about).or_insert(0) += 1,
+            Err(failure) => {
+                failed += 1;
+                println!("check {seed} {index} ({about}): {failure}");
+            }
+        }
+    }
+    fs::remove_dir_all(&room).expect("the files are taken away");
+    println!("check: {alike:?}");
+    failed
+}
+
+fn run(program: &[String], room: &PathBuf, verb: &str, files: &[Vec<u8>], expected: &Expected) -> Result<(), String> {
+    let mut command = Command::new(&program[0]);
+    command.args(&program[1..]).arg(verb).stdin(Stdio::null());
+    for (number, bytes) in files.iter().enumerate() {
+        let path = room.join(format!("file-{number}"));
+        fs::write(&path, bytes).map_err(|error| error.to_string())?;
+        command.arg(path);
+    }
+    let output = command.output().map_err(|error| format!("{} does not start: {error}", program[0]))?;
+    let said = String::from_utf8_lossy(&output.stderr);
+    if output.stdout != expected.printed {
+        let [found, wanted] = [&output.stdout, &expected.printed].map(|bytes| String::from_utf8_lossy(bytes).into_owned());
+        return Err(format!("it prints `{found}` and says `{said}`, the count `{wanted}`"));
+    }
+    let begins = if expected.begins.is_empty() { said.is_empty() } else { said.starts_with(expected.begins) };
+    if !begins || !said.contains(&expected.holds) || !output.status.success() {
+        return Err(format!("it says `{said}`, which is to begin with `{}` and to hold `{}`; {}", expected.begins, expected.holds, output.status));
+    }
+    Ok(())
+}
+
+/// A sheet as its lines: the values, each as its words, and the words of the spread.
+struct Lines {
+    values: Vec<Vec<String>>,
+    spread: Vec<String>,
+}
+
+impl Lines {
+    fn of(job: &Job, results: &Results) -> Lines {
+        let listed = listing::accepted(job, results);
+        let words = |line: &str| line.split(' ').map(str::to_string).collect::<Vec<_>>();
+        let of = |first: &str| listed.lines().filter(|line| line.starts_with(first)).map(words).collect::<Vec<_>>();
+        Lines { values: of("value "), spread: of("spread ").remove(0) }
+    }
+
+    /// The lines as text; where `among` is true, others stand between them, and the spread comes first.
+    fn text(&self, among: bool) -> String {
+        let mut lines: Vec<String> = self.values.iter().chain([&self.spread]).map(|words| words.join(" ")).collect();
+        if among {
+            lines.rotate_right(1);
+            lines.insert(0, "design 1 2 3".to_string());
+            lines.insert(2, String::new());
+            lines.push("values 0 1 2 3".to_string());
+            lines.push(" value 0 1 2 3".to_string());
+            lines.push("spreads".to_string());
+        }
+        lines.join("\n") + "\n"
+    }
+}
+
+type Trial = (&'static str, Vec<Vec<u8>>, Expected);
+
+/// A job and its sheet.
+fn check(seed: u64, index: u64, source: &mut Seed) -> Trial {
+    let bytes = if index % 6 == 5 { damage::seeded(seed, index).bytes } else { whole(source) };
+    let edition = source.once_in(3);
+    let file = if edition { second::with_names(&bytes, &[]) } else { bytes };
+    let seen = if edition { &file[..file.len().min(second::LIMIT + 1)] } else { &file[..file.len().min(listing::READ_LIMIT)] };
+    let read = if file.first() == Some(&second::EDITION[0]) { second::read(seen).map(|read| read.job) } else { job::read(seen) };
+    let job = match read {
+        Ok(job) => job,
+        Err(refusal) => {
+            let a = job::read(&crate::stored::A).expect("example A");
+            let sheet = Lines::of(&a, &solve(&a)).text(source.once_in(2));
+            return ("a job that is refused", vec![file, sheet.into_bytes()], printed(listing::refused(refusal)));
+        }
+    };
+    let results = solve(&job);
+    let (about, text, expected) = sheet(&job, &results, source);
+    (about, vec![file, text.into_bytes()], expected)
+}
+
+/// The file of a job that nothing refuses.
+fn whole(source: &mut Seed) -> Vec<u8> {
+    loop {
+        let bytes = damage::seeded(source.next() % 1000, 3 * (source.next() % 1000)).bytes;
+        if job::read(&bytes).is_ok() {
+            return bytes;
+        }
+    }
+}
+
+/// A sheet's text, and what is said of it.
+fn sheet(job: &Job, results: &Results, source: &mut Seed) -> (&'static str, String, Expected) {
+    let v = results.hundredths.len();
+    let mut lines = Lines::of(job, results);
+    let object = source.below(v);
+    let agrees = || printed("agrees\n".to_string());
+    let short = || printed("refused 15 0\n".to_string());
+    let unread = |line: usize| Expected { printed: vec![], begins: "bench:", holds: format!("line {line}\n") };
+    let differs = |object: usize, claimed: i128| printed(format!("differs {object} claimed {claimed} is {}\n", results.hundredths[object]));
+    let spread = |words: &[String]| words[3..].join(" ");
+    let of_spread = |claimed: &[String]| printed(format!("differs spread claimed {} is {}\n", spread(claimed), spread(&lines_of(job, results))));
+    let among = source.once_in(3);
+    match source.below(18) {
+        0 => ("right", listing::accepted(job, results), agrees()),
+        1 => ("right, other lines between", lines.text(true), agrees()),
+        2 => ("right, the last line not ended", lines.text(false).trim_end().to_string(), agrees()),
+        3 => {
+            // the fraction, Q and v beta claim nothing
+            lines.values[object][2] = "7".to_string();
+            lines.spread[1] = "1".to_string();
+            ("another fraction", lines.text(among), agrees())
+        }
+        4..=6 => {
+            let claimed = results.hundredths[object] + source.pick(&[1, -1, 1 << 32, -(1 << 32)]);
+            lines.values[object][4] = claimed.to_string();
+            if source.once_in(2) {
+                lines.spread[4] = "none".to_string();
+            }
+            ("an object", lines.text(among), differs(object, claimed))
+        }
+        7 => {
+            let claimed = results.hundredths[0] - 5;
+            lines.values[0][4] = claimed.to_string();
+            lines.values[v - 1][4] = "9".to_string();
+            ("the first object and the last", lines.text(among), differs(0, claimed))
+        }
+        8 => match results.spread {
+            Some(k) => {
+                lines.spread[4] = (k + 1).to_string();
+                let expected = of_spread(&lines.spread);
+                ("the spread", lines.text(among), expected)
+            }
+            None => {
+                lines.spread[4] = "0".to_string();
+                let expected = of_spread(&lines.spread);
+                ("a spread where there is none", lines.text(among), expected)
+            }
+        },
+        9 => {
+            lines.spread[3] = (results.freedom + 1).to_string();
+            let expected = of_spread(&lines.spread);
+            ("the degrees of freedom", lines.text(among), expected)
+        }
+        10 => {
+            let right = results.spread.is_none();
+            lines.spread[4] = "none".to_string();
+            let expected = if right { agrees() } else { of_spread(&lines.spread) };
+            ("none", lines.text(among), expected)
+        }
+        11 => {
+            lines.values.pop();
+            ("a value too few", lines.text(among), short())
+        }
+        12 => {
+            let more = source.pick(&[1, 2, 60]);
+            (v..v + more).for_each(|object| lines.values.push(["value", &object.to_string(), "1", "1", "100"].map(str::to_string).to_vec()));
+            ("values too many", lines.text(among), short())
+        }
+        13 => {
+            let object = object.min(v - 2);
+            lines.values.swap(object, object + 1);
+            ("two lines exchanged", lines.text(false), unread(object + 1))
+        }
+        14 => {
+            lines.values.remove(object.min(v - 2));
+            ("a line left out", lines.text(false), unread(object.min(v - 2) + 1))
+        }
+        15 => {
+            let wrong = source.pick(&["", "x", "1.5", "+1", "--1", "-", "0x1", "9223372036854775808", "-9223372036854775809"]);
+            lines.values[object][4] = wrong.to_string();
+            ("what is no number", lines.text(false), unread(object + 1))
+        }
+        16 => {
+            if source.once_in(2) {
+                lines.values[object].pop();
+            } else {
+                lines.values[object].push("0".to_string());
+            }
+            ("a word too few or too many", lines.text(false), unread(object + 1))
+        }
+        _ => {
+            let text = lines.text(false);
+            let twice = lines.spread.join(" ");
+            ("two spreads", format!("{text}{twice}\n"), unread(v + 2))
+        }
+    }
+}
+
+fn lines_of(job: &Job, results: &Results) -> Vec<String> {
+    Lines::of(job, results).spread
+}

@@ -19,6 +19,9 @@ use Rattle.design.proofs.development.develop.Reads as develop-reads
 use Rattle.design.proofs.development.develop_initial as develop-initial
 use Rattle.design.proofs.development.develop_initial.Kinds as develop-initial-kinds
 use Rattle.design.proofs.development.develop_initial.Reads as develop-initial-reads
+use Rattle.design.proofs.differences.count_differences as count-differences
+use Rattle.design.proofs.differences.count_differences.Kinds as count-differences-kinds
+use Rattle.design.proofs.differences.count_differences.Reads as count-differences-reads
 use Rattle.design.proofs.sizes.sized as sized
 use Rattle.design.proofs.sizes.sized.Kinds as sized-kinds
 use Rattle.design.proofs.sizes.sized.Reads as sized-reads
@@ -55,6 +58,13 @@ module _ (κs : Lfts 2) (a : ArgsD develop-initial.signature κs) (r q : ResD de
       (r ≡ q)
       × (now (s .1 .1 .1 .0) ≡ now (t .1 .1 .1 .0))
   develop-initial-determined p e = (p .0 ∙ sym (e .0), p .1 ∙ sym (e .1))
+
+-- `count_differences`: the answer
+module _ (κs : Lfts 1) (a : ArgsD count-differences.signature κs) (r q : ResD count-differences.signature κs)
+    (s t : AtExit (endedOf 1 count-differences-kinds.ps count-differences-kinds.r) κs) where
+  pub count-differences-determined : count-differences-reads.Post κs a r s → count-differences-reads.Post κs a q t →
+      r ≡ q
+  count-differences-determined p e = p ∙ sym e
 
 -- `sized`: the answer
 module _ (κs : Lfts 0) (a : ArgsD sized.signature κs) (r q : ResD sized.signature κs)

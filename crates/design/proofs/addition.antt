@@ -1,2 +1,3 @@
 -- What the proofs of the functions stand on.
 pub mod Cards
+pub mod Negatives

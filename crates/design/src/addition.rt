@@ -1,64 +1,115 @@
-// The addition that develops a block: the object that a byte names at a shift. Residues are added modulo n. The elements of a field are added by its
-// card, whose entry x n + s is x + s: the sums, modulo the field's prime, of the digits of x and s.
+// The addition that develops a block: the object that a byte names at a shift, and the shift that takes an element back to 0. Residues are added modulo
+// n. The elements of a field are added by its card, whose entry x n + s is x + s: the sums, modulo the field's prime, of the digits of x and s. A card
+// is taken out once and lent to the loops that read it.
 use crate::sizes::by_field;
 use records::Head;
 ghost use mathlib.Core.Path.{_≡_};
 ghost use mathlib.Core.Bool.{true};
 ghost use Prim.Native.Nat.{_≤_, _<_};
-ghost use Rattle.meaning.specs.Design.{fieldPrime, digitSum, plus, moved};
+ghost use lib.ListN.{length};
+ghost use Rattle.meaning.specs.Design.{plus, moved};
 ghost use Rattle.meaning.specs.Refusals.{inRange};
 ghost use Rattle.laws.specs.Fits.{Fits};
+ghost use Rattle.design.specs.Addition.{Laid, Sums, back};
 
 // The object that a byte names at a shift.
-pub(crate) fn object_of(head: Head, shift: usize, byte: u8) -> usize
-    requires { ⌜ (Fits head) × (shift < head .n) × (inRange head byte ≡ true) ⌝ }
+pub(crate) fn object_of(head: Head, card: &[u8; 2401], shift: usize, byte: u8) -> usize
+    requires { ⌜ (Fits head) × (shift < head .n) × (inRange head byte ≡ true) × Sums head (now card) ⌝ }
     ensures { λ r. ⌜ r ≡ moved head shift byte ⌝ }
 {
     if byte == 255 {
         head.n
     } else {
-        plus(head, byte as usize, shift)
+        plus(head, card, byte as usize, shift)
     }
 }
 
 // An element with a shift added, by either addition.
-fn plus(head: Head, x: usize, shift: usize) -> usize
-    requires { ⌜ (Fits head) × (x < head .n) × (shift < head .n) ⌝ }
+fn plus(head: Head, card: &[u8; 2401], x: usize, shift: usize) -> usize
+    requires { ⌜ (Fits head) × (x < head .n) × (shift < head .n) × Sums head (now card) ⌝ }
     ensures { λ r. ⌜ r ≡ plus head x shift ⌝ }
 {
     let n = head.n;
     if by_field(head) {
-        by_card(n, x, shift) as usize
+        let at = x * n + shift;
+        wide(card[at])
     } else {
         (x + shift) % n
     }
 }
 
-// The sum of two elements of the field of n, read from its card.
-fn by_card(n: usize, x: usize, shift: usize) -> u8
-    requires { ⌜ (n ≤ 50) × (0 < fieldPrime n) × (x < n) × (shift < n) ⌝ }
-    ensures { λ r. ⌜ r ≡ digitSum (fieldPrime n) 5 x shift ⌝ }
+// A card's entry as a number.
+fn wide(entry: u8) -> usize
+    ensures { λ r. ⌜ r ≡ entry ⌝ }
 {
-    let at = x * n + shift;
+    entry as usize
+}
+
+// The shift that takes an element to 0: its negative.
+pub(crate) fn back(head: Head, card: &[u8; 2401], x: usize) -> usize
+    requires { ⌜ (Fits head) × (x < head .n) × Sums head (now card) ⌝ }
+    ensures { λ r. ⌜ r ≡ back head x ⌝ }
+{
+    let n = head.n;
+    if !by_field(head) {
+        return (n - x) % n;
+    }
+    let mut shift = 0;
+    while shift < n {
+        if plus(head, card, x, shift) == 0 {
+            return shift;
+        }
+        shift += 1;
+    }
+    shift
+}
+
+// The card of a head's field, at the front of room for the largest. Residues need none: zeros.
+pub(crate) fn card_of(head: Head) -> [u8; 2401]
+    requires { ⌜ Fits head ⌝ }
+    ensures { λ r. ⌜ Sums head r ⌝ }
+{
+    let n = head.n;
+    if !by_field(head) {
+        return [0u8; 2401];
+    }
     if n == 8 {
-        return CARD_8[at];
+        let sums = CARD_8;
+        return laid(&sums);
     }
     if n == 9 {
-        return CARD_9[at];
+        let sums = CARD_9;
+        return laid(&sums);
     }
     if n == 16 {
-        return CARD_16[at];
+        let sums = CARD_16;
+        return laid(&sums);
     }
     if n == 25 {
-        return CARD_25[at];
+        let sums = CARD_25;
+        return laid(&sums);
     }
     if n == 27 {
-        return CARD_27[at];
+        let sums = CARD_27;
+        return laid(&sums);
     }
     if n == 32 {
-        return CARD_32[at];
+        let sums = CARD_32;
+        return laid(&sums);
     }
-    CARD_49[at]
+    CARD_49
+}
+
+// The entries of a card at the front of room for the largest.
+fn laid(sums: &[u8]) -> [u8; 2401]
+    requires { ⌜ length (now sums) ≤ 2401 ⌝ }
+    ensures { λ r. ⌜ Laid (now (sums .entry)) r ⌝ }
+{
+    let mut card = [0u8; 2401];
+    for i in 0..sums.len() {
+        card[i] = sums[i];
+    }
+    card
 }
 
 // The card of 8 elements, row after row.

@@ -5,6 +5,11 @@ pub mod Clean
 pub mod Incidence
 pub mod Counting
 pub mod Tables
+pub mod DifferencesShifts
+pub mod DifferencesBlocks
+pub mod Differences
+pub mod DifferencesBalance
+pub mod DifferencesRows
 pub mod LeastSquares
 pub mod Matrix
 pub mod Solution

@@ -68,6 +68,13 @@ pub struct Judged {
     pub parameters: Parameters,
 }
 
+// The differences that arise in a design: how often object e shares a side with object 0, and how often it opposes it.
+pub struct Differences {
+    pub verdict: Verdict,
+    pub within: [u64; 50],
+    pub across: [u64; 50],
+}
+
 // The answer of a call for the total of one object.
 pub struct ObjectTotal {
     pub verdict: Verdict,

@@ -5,7 +5,9 @@ use Rattle.design.proofs.addition.object_of.Statement.{statement}
 use Rattle.design.proofs.addition.object_of.Tie as tie
 
 plus-requires : tie.Need-plus-requires
-plus-requires c κs = let s = c .before in (s .pre .0, element (s .args .head) _ (s .pre .0 .has-addition) (s .pre .1) _ (c .if1 .left) (s .pre .2), s .pre .1)
+plus-requires c κs =
+    let s = c .before in
+    (s .pre .0, element (s .args .head) _ (s .pre .0 .has-addition) (s .pre .1) _ (c .if1 .left) (s .pre .2), s .pre .1, s .pre .3)
 
 returns : tie.Need-returns
 returns c = rw (eq-eqb _ _ (c .if1 .taken))

@@ -74,25 +74,29 @@ mul-first-2 : tie.Need-mul-first-2
 mul-first-2 c = omega (arith, inside c)
 
 mul-write-shifts : tie.Need-mul-write-shifts
-mul-write-shifts c = omega (arith, inside c)
+mul-write-shifts c = omega (arith, inside (c .before .before))
 
 sub-write-shifts : tie.Need-sub-write-shifts
-sub-write-shifts c = omega (arith, inside c)
+sub-write-shifts c = omega (arith, inside (c .before .before))
 
 part-write-shifts-start : tie.Need-part-write-shifts-start
-part-write-shifts-start c = omega (arith, inside c)
+part-write-shifts-start c = omega (arith, inside (c .before .before))
 
 write-shifts-requires : tie.Need-write-shifts-requires
-write-shifts-requires c κs =
-    (passed (c .before .before .before), search needs, simp (length-take, length-drop) (omega (arith, inside (c .before))))
+write-shifts-requires c κs = (
+  passed (c .before .before .before .before .before),
+  search needs,
+  simp (length-take, length-drop) (omega (arith, inside (c .before .before .before))),
+  c .before .before .card-of .ensures,
+)
 
 returns-4 : tie.Need-returns-4
 unfolding initialVerdict
 returns-4 c =
-    let a = c .before .before .before .before .before .before .before .before .before .before .before .args in
-    let e = passed (c .before .before .before .before .before .before) in
-    let j = lt-ltb _ _ (c .before .before .before .before .before .if2 .left) in
-    let r = le-leb _ _ (c .before .before .before .before .if3 .left) in (
+    let a = c .before .before .before .before .before .before .before .before .before .before .before .before .before .args in
+    let e = passed (c .before .before .before .before .before .before .before .before) in
+    let j = lt-ltb _ _ (c .before .before .before .before .before .before .before .if2 .left) in
+    let r = le-leb _ _ (c .before .before .before .before .before .before .if3 .left) in (
       rw (e, j, r) (search needs),
       rw (e, j, r)
           (lent-back (2 * a .head .n * a .j) (2 * a .head .n) _ (now (a .words)) (c .before .before .write-shifts .ensures)),
@@ -111,6 +115,7 @@ develop-initial-spec =
     returns-3
     mul-first
     mul-first-2
+    (λ c κs. sound _ _ (passed (c .before .before)) .sizes)
     mul-write-shifts
     sub-write-shifts
     part-write-shifts-start

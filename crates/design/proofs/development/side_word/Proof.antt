@@ -14,11 +14,11 @@ use Rattle.design.proofs.development.side_word.Statement.{statement}
 use Rattle.design.proofs.development.side_word.Tie as tie
 
 abbrev Inv-loop : tie.InvT-loop
-Inv-loop head shift side sum₀ k₀ k-end sum k =
+Inv-loop head card shift side sum₀ k₀ k-end sum k =
     (k ≤ length side) × (k-end ≡ length side) × (sum + word (map (moved head shift) (drop k side)) ≡ word (map (moved head shift) side))
 
 abbrev μ-loop : tie.MeasureT-loop
-μ-loop head shift side sum₀ k₀ k-end sum k = k-end - k
+μ-loop head card shift side sum₀ k₀ k-end sum k = k-end - k
 
 -- the byte's bit and the words of the rest make the whole
 whole : (c : tie.After-object-of Inv-loop μ-loop)
@@ -52,7 +52,7 @@ object-of-requires : tie.Need-object-of-requires Inv-loop μ-loop
 object-of-requires c κs =
     let s = c .before .before .before .before in
     let more : c .before .before .loop .k < length (now (s .args .side)) = omega arith in
-    (s .pre .0, s .pre .1, s .pre .3 (c .before .before .loop .k) more)
+    (s .pre .0, s .pre .1, s .pre .3 (c .before .before .loop .k) more, s .pre .4)
 
 shl-sum : tie.Need-shl-sum Inv-loop μ-loop
 shl-sum c = omega (arith, whole c .0)

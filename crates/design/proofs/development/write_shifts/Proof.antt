@@ -15,11 +15,11 @@ use Rattle.design.proofs.development.write_shifts.Statement.{statement}
 use Rattle.design.proofs.development.write_shifts.Tie as tie
 
 abbrev Inv-loop : tie.InvT-loop
-Inv-loop head j blocks part₀ n p left right end shift₀ part shift =
+Inv-loop head card j blocks part₀ n p left right end shift₀ part shift =
     (shift ≤ head .n) × (length part ≡ length part₀) × (part ≡ over (2 * shift) (λ c. wordAt head blocks (2 * head .n * j + c)) part₀)
 
 abbrev μ-loop : tie.MeasureT-loop
-μ-loop head j blocks part₀ n p left right end shift₀ part shift = head .n - shift
+μ-loop head card j blocks part₀ n p left right end shift₀ part shift = head .n - shift
 
 -- block j lies within the bytes
 inside : (c : tie.Start Inv-loop μ-loop) →
@@ -51,7 +51,7 @@ side-word-requires c κs =
     let first = 2 * s .args .head .p * s .args .j in
     let in-list : first + (first + s .args .head .p - first) ≤ length (now (s .args .blocks)) = omega (arith, inside s .0, d .long) in
     let range = part-range (s .args .head) (now (s .args .blocks)) d first (first + s .args .head .p - first) in-list in
-    (d .sizes, search needs, simp length-take (omega (arith, d .sizes)), range)
+    (d .sizes, search needs, simp length-take (omega (arith, d .sizes)), range, s .pre .3)
 
 part-side-word-end-2 : tie.Need-part-side-word-end-2 Inv-loop μ-loop
 part-side-word-end-2 c = let s = c .before .before .before .before .before .before in omega (arith, inside s .0, sound _ _ (s .pre .0) .long)
@@ -63,7 +63,7 @@ side-word-requires-2 c κs =
     let first = 2 * s .args .head .p * s .args .j + s .args .head .p in
     let in-list : first + (first + s .args .head .p - first) ≤ length (now (s .args .blocks)) = omega (arith, inside s .0, d .long) in
     let range = part-range (s .args .head) (now (s .args .blocks)) d first (first + s .args .head .p - first) in-list in
-    (d .sizes, search needs, simp length-take (omega (arith, d .sizes)), range)
+    (d .sizes, search needs, simp length-take (omega (arith, d .sizes)), range, s .pre .3)
 
 slice-write-part-2 : tie.Need-slice-write-part-2 Inv-loop μ-loop
 slice-write-part-2 c = simp length-set (omega arith)

@@ -41,7 +41,8 @@ impl Design {
         }
     }
 
-    fn sum(&self, object: u8, shift: u8) -> u8 {
+    /// An object shifted by an element, as residues or in the field; the fixed object stays.
+    pub fn sum(&self, object: u8, shift: u8) -> u8 {
         match self.field() {
             _ if object == INFINITY => INFINITY,
             Some(field) => field.sum(object.into(), shift.into()) as u8,

@@ -8,6 +8,7 @@
 //! A call that the count accepts is lent rooms of just the length that it asks for, longer ones, and each room in turn too short, which is refused by 10. One
 //! that it refuses is lent long rooms and none. Around each room lie entries that are not lent; what a call does not write must stay as it was.
 //! A call fails that differs anywhere, and one that was never accepted or, by some test that it makes, never refused: a comparison of nothing would pass too.
+//! Names must have been accepted with each flag, in a file that is read and in one that is written: how many there are goes by the flag.
 //! A new call is a row of `CALLS`, a new refusal a row of `ORDER` in asked.rs.
 
 // The count's own program uses what this one does not.
@@ -19,8 +20,8 @@ mod coefficients;
 mod compare;
 mod damage;
 mod design;
-mod field;
 mod editions;
+mod field;
 mod groups;
 mod job;
 mod listing;
@@ -534,6 +535,29 @@ impl Call {
     }
 }
 
+/// How often names are accepted, in a file that is read and in one that is written, by the flag of the job.
+#[derive(Default)]
+struct Named([[u64; 4]; 2]);
+
+impl Named {
+    fn count(&mut self, asked: &Asked) {
+        if let Some((file, _)) = asked.second_file().ok().filter(|(file, _)| file.names.is_some()) {
+            self.0[0][file.job.head.flag] += 1;
+        }
+        let write = CALLS.iter().find(|call| call.makes(Test::NamesLength)).expect("a call that writes names");
+        if !asked.names.is_empty() && write.refusal(asked).is_none() {
+            self.0[1][asked.head.flag] += 1;
+        }
+    }
+
+    /// The line of the names, and whether there were some of each kind.
+    fn told(&self) -> bool {
+        let [read, written] = self.0;
+        println!("files with names, by the flags 0 to 3: {read:?} read, {written:?} written");
+        self.0.concat().iter().all(|count| *count > 0)
+    }
+}
+
 /// The calls that hosts/bench.h declares: each must have its row.
 fn declared() -> BTreeSet<&'static str> {
     include_str!("../../hosts/bench.h").lines().filter_map(|line| line.strip_prefix("uint64_t ")?.split('(').next()).collect()
@@ -636,17 +660,22 @@ fn main() -> ExitCode {
         println!("a bit of what is expected is turned in each comparison; what is told is what was seen:");
     }
     let mut tallies: Vec<Tally> = CALLS.iter().map(|_| Tally::default()).collect();
-    let mut changed = 0;
+    let (mut named, mut changed) = (Named::default(), 0);
     for (mut asked, index) in jobs(seed, count).zip(0..) {
         let mut edition = Seed::new(seed + 3, index);
         asked.second = editions::made(&asked.bytes, &mut edition);
         asked.names = editions::names(&asked.bytes, &mut edition);
         let lent = (asked.objects.clone(), asked.readings.clone(), asked.bytes.clone(), asked.second.clone(), asked.names.clone());
         compare_all(&mut asked, &mut Seed::new(seed + 2, index), spoiled, &mut tallies);
+        named.count(&asked);
         changed += u64::from(lent != (asked.objects, asked.readings, asked.bytes, asked.second, asked.names));
     }
     let passed = CALLS.iter().zip(&tallies).filter(|(call, tally)| call.told(tally)).count();
     let mut failed = CALLS.len() - passed;
+    if !named.told() {
+        failed += 1;
+        println!("names were never compared as accepted with some flag");
+    }
     let rows: BTreeSet<&str> = CALLS.iter().map(|call| call.name).collect();
     if declared() != rows {
         failed += 1;

@@ -151,14 +151,17 @@ fn readings(design: &Design, seed: &mut Seed) -> Vec<i32> {
     }
 }
 
-/// The left sum less the right sum of true values, and noise.
+/// The left sum less the right sum of true values, and noise; the objects of a block are those of its initial block, shifted as the design says.
 fn exact_readings(design: &Design, seed: &mut Seed, noise: i64) -> Vec<i32> {
-    let (n, p) = (usize::from(design.n), usize::from(design.p));
-    let truth: Vec<i64> = (0..=n).map(|_| seed.between(-3_000, 3_000)).collect();
+    let p = usize::from(design.p);
+    let truth: Vec<i64> = (0..=design.n).map(|_| seed.between(-3_000, 3_000)).collect();
     let mut readings = Vec::new();
     for block in design.objects.chunks(2 * p) {
-        for shift in 0..n {
-            let value = |object: &u8| truth[if *object == INFINITY { n } else { (usize::from(*object) + shift) % n }];
+        for shift in 0..design.n {
+            let value = |object: &u8| match design.sum(*object, shift) {
+                INFINITY => truth[usize::from(design.n)],
+                object => truth[usize::from(object)],
+            };
             let left: i64 = block[..p].iter().map(value).sum();
             let right: i64 = block[p..].iter().map(value).sum();
             readings.push((left - right + seed.between(-noise, noise)) as i32);

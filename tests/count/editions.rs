@@ -3,10 +3,10 @@
 use crate::second::{field, with_names, LIMIT, NAMES};
 use crate::seed::Seed;
 
-/// How many objects a file of the first edition speaks of, and how many residues, right or wrong.
+/// How many objects a file of the first edition speaks of, and how many elements, right or wrong: with an odd flag the fixed object is one more.
 fn counts(first: &[u8]) -> (usize, usize) {
     let byte = |at: usize| first.get(at).copied().map_or(0, usize::from);
-    (byte(3) + byte(4), byte(3))
+    (byte(3) + byte(4) % 2, byte(3))
 }
 
 /// Names of the right length, of none, and of lengths beside it.

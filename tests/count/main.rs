@@ -11,6 +11,7 @@ mod coefficients;
 mod compare;
 mod damage;
 mod design;
+mod editions;
 mod field;
 mod groups;
 mod job;

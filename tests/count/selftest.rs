@@ -5,6 +5,7 @@ use crate::coefficients::Coefficients;
 use crate::compare;
 use crate::damage;
 use crate::design::{develop, pairs};
+use crate::editions as made;
 use crate::field::{Field, SIZES};
 use crate::groups::{self, Counts, Grouping};
 use crate::job::{self, Head, Job, READING_LIMIT};
@@ -48,6 +49,7 @@ pub fn selftest() -> usize {
     variance_factors(&mut figures);
     designs(&mut figures);
     editions(&mut figures);
+    names(&mut figures);
     grouped_sets(&mut figures);
     sheets(&mut figures);
     practice(&mut figures);
@@ -242,12 +244,20 @@ fn seeds(figures: &mut Figures) {
     let files = (0..1600).map(|index| compare::trial(&fixed, 1, index).bytes);
     for (about, bytes, least) in [("seeded jobs by their parts", parts.collect::<Vec<_>>(), 3), ("seeded job files", files.collect(), 10)] {
         let mut often = BTreeMap::new();
+        let mut exact = BTreeMap::from(EXACT.map(|kind| (kind, 0)));
         for job in bytes.iter().filter_map(|bytes| job::read(bytes).ok()) {
-            features(&job, &solve(&job)).into_iter().for_each(|feature| *often.entry(feature).or_insert(0) += 1);
+            let results = solve(&job);
+            features(&job, &results).into_iter().for_each(|feature| *often.entry(feature).or_insert(0) += 1);
+            if results.q == 0 && results.freedom > 0 && job.readings.iter().any(|reading| *reading != 0) {
+                *exact.entry(EXACT[usize::from(job.head.field().is_some())]).or_insert(0) += 1;
+            }
         }
         let mut alone = BTreeMap::new();
         bytes.iter().filter_map(|bytes| one_standard(bytes)).for_each(|kind| *alone.entry(kind).or_insert(0) += 1);
-        println!("{about}: {often:?}, one standard: {alone:?}");
+        println!("{about}: {often:?}, one standard: {alone:?}, Q 0 of readings not all 0: {exact:?}");
+        for (kind, count) in exact {
+            figures.same(&format!("{about}: Q 0 of readings not all 0, {kind}, in {count} of them"), count >= least, true);
+        }
         for (kind, least) in ALONE {
             let count = alone.get(kind).copied().unwrap_or(0);
             figures.same(&format!("{about}: {kind} in {count} of them"), count >= *least, true);
@@ -258,6 +268,9 @@ fn seeds(figures: &mut Figures) {
         }
     }
 }
+
+/// How a job whose every deviation is 0, with degrees of freedom and readings that are not all 0, is developed.
+const EXACT: [&str; 2] = ["over residues", "over a field"];
 
 /// The fields: their sizes, sums with nothing carried, and that every element but 0 has an inverse.
 fn fields(figures: &mut Figures) {
@@ -373,6 +386,31 @@ fn editions(figures: &mut Figures) {
     figures.same("back with a field", second::to_first(&named).err().map(|refusal| (refusal.number, refusal.place)), Some((13, 60)));
 }
 
+/// Seeded files of the second edition, and names to write beside a job: for each flag some that are accepted, with 8v bytes, and some at both sides of that.
+fn names(figures: &mut Figures) {
+    let mut often: BTreeMap<(&str, usize), usize> = BTreeMap::new();
+    for index in 0..400 {
+        let first = damage::seeded(1, index).bytes;
+        let mut seed = Seed::new(4, index);
+        let (file, names) = (made::made(&first, &mut seed), made::names(&first, &mut seed));
+        if let Ok(file) = second::read(&file) {
+            *often.entry(("read", file.job.head.flag)).or_insert(0) += usize::from(file.names.is_some());
+        }
+        if let Ok(job) = job::read(&first) {
+            let written = second::read(&second::with_names(&first, &names)).map(|file| file.names.is_some());
+            let beside = names.len().abs_diff(8 * job.head.objects()) == 1;
+            *often.entry(("written", job.head.flag)).or_insert(0) += usize::from(written == Ok(true));
+            *often.entry(("a byte too few or too many", job.head.flag)).or_insert(0) += usize::from(beside && written.is_err());
+        }
+    }
+    println!("names: {often:?}");
+    for kind in ["read", "written", "a byte too few or too many"] {
+        for flag in 0..4 {
+            figures.same(&format!("names, {kind}, flag {flag}"), often.get(&(kind, flag)).is_some_and(|count| *count > 0), true);
+        }
+    }
+}
+
 /// Factors worked out by hand: the job, its factors, the denominator, and the products of objects 0 and 1, 0 and the last, and the last two.
 const FACTORS: &[(&str, &[i128], i128, [i128; 3])] = &[
     ("A", &[1, 1, 3, 3, 3], 10, [-1, 0, 1]),
@@ -401,7 +439,7 @@ fn variance_factors(figures: &mut Figures) {
         let sum = Fraction::new(job.sum, t as i128);
         let found: Vec<i128> = (0..v).map(|object| coefficients.numerator(object, &job.readings, sum)).collect();
         figures.same("values from the coefficients", found, results.numerators);
-        for (kind, has) in [("all objects members", t == v), ("two members", t == 2), ("the fixed object", job.head.flag == 1), ("one object outside", v == t + 1)] {
+        for (kind, has) in [("all objects members", t == v), ("two members", t == 2), ("the fixed object", job.head.with_fixed()), ("one object outside", v == t + 1)] {
             *often.entry(kind).or_insert(0) += usize::from(has);
         }
         (jobs, objects) = (jobs + 1, objects + v);

@@ -1,4 +1,4 @@
--- Worked instances of what the demands speak of, rows of four tables with a theorem each: a definition of specs/ that is changed turns one of them over.
+-- Worked instances of what the demands speak of, rows of five tables with a theorem each: a definition of specs/ that is changed turns one of them over.
 -- The figures were worked out apart from the definitions. Assumes nothing.
 use mathlib.Core.Bool.{Bool, true, _&&_}
 use mathlib.Core.List.{List, [], _∷_, _++_, replicate}

@@ -1,4 +1,4 @@
-// The tests of a whole job, in the request's order: 4, 3, 5, 6, 7, 8. The design is judged once, and its judgement handed on.
+// The tests of a whole job, in the request's order: 4, 3, 5, 6, 7, 11, 8. The design is judged once, and its judgement handed on.
 use crate::restraint::restraint_refusal;
 use balance::judge;
 use records::Head;

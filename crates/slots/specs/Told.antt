@@ -7,6 +7,6 @@ use Rattle.meaning.specs.Refusals.{number, place}
 abbrev pub coded : ℕ → ℕ → ℕ → ℕ
 coded number index place = number + 2 ^ 8 * index + 2 ^ 16 * (place % 2 ^ 48)
 
--- a verdict as one number, 0 where it accepts; no refusal has an index so far
+-- a verdict as one number, 0 where it accepts: the index is 0, since a verdict has none (that of a pooled job stands beside its verdict: Pools)
 abbrev pub told : Verdict → ℕ
 told verdict = coded (number verdict) 0 (place verdict)

@@ -55,14 +55,19 @@
  * the prime, the lowest digit first, and each two digits are added modulo q.
  *
  * Calls may be made from several threads at once, each with its own buffers to write: the library keeps nothing between calls.
- * Of the stack bench_listing takes about 99 KB; bench_values, bench_value_of, bench_published, bench_deviation_of, bench_q and
- * bench_spread 94 KB; bench_deviations and bench_analyse 83 KB; bench_read and bench_solve 68 KB; bench_company, bench_opposition,
- * bench_judge, bench_refusal and bench_write 62 KB; bench_total and bench_sum_of_squared_totals 22 KB; the others less than 1 KB. A
- * thread that makes any of them needs about 104 KB with what the thread itself takes. That is measured with the archive for x86-64,
- * not proved; the calls on files of the second edition were not measured: each makes the call on its four fields, and adds little to what that takes;
- * nor were bench_practice and bench_practice_file, which add rooms of 21 KB and of 26 KB to what bench_judge and bench_write take.
- * not proved; the calls on files of the second edition were not measured: each makes the call on its four fields, and adds little to what that takes.
- * bench_pool was not measured either: it works each job out as bench_solve does, in rooms of its own of 32 KB.
+ * Of the stack, which no proof speaks of, each takes at most this, in KB of 1,000 bytes, with what is passed to it:
+ *   121 KB | bench_listing, bench_listing_second, bench_check_file, bench_check_second, bench_pool
+ *   115 KB | bench_values, bench_value_of, bench_published, bench_deviation_of, bench_q, bench_spread, bench_check_parts
+ *   108 KB | bench_practice_file
+ *   104 KB | bench_deviations, bench_practice
+ *    89 KB | bench_solve, bench_solve_second, bench_read, bench_read_second, bench_to_second, bench_to_first
+ *    83 KB | bench_judge, bench_grouped, bench_group_base, bench_refusal, bench_analyse, bench_write, bench_write_second
+ *    62 KB | bench_company, bench_opposition
+ *    26 KB | bench_total, bench_sum_of_squared_totals
+ *     5 KB | bench_develop, bench_develop_initial
+ *     1 KB | bench_pairs_refusal, bench_sum_of_squares, bench_field_at
+ * A thread that makes any of them needs about 127 KB with what the thread itself takes. That is measured with the archive for x86-64 on
+ * every stored job, with room and with none (tests/stack/run); it hardly depends on the job.
  */
 #ifndef BENCH_H
 #define BENCH_H

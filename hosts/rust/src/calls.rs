@@ -49,9 +49,9 @@ calls! {
     judge = bench_judge(n: usize, flag: usize, p: usize, m: usize, blocks: &[u8], answer: &mut [u64],);
     /// The total of one object.
     total = bench_total(n: usize, flag: usize, p: usize, m: usize, blocks: &[u8], readings: &[i32], object: usize, signed_slots: &mut [i64],);
-    /// The sum of the squared readings.
+    /// The sum of the squared readings, in two slots: 2^64 times the first, the high word, and the second.
     sum_of_squares = bench_sum_of_squares(n: usize, flag: usize, p: usize, m: usize, readings: &[i32], answer: &mut [u64],);
-    /// The sum of the squared totals.
+    /// The sum of the squared totals, in two slots, the high word first.
     sum_of_squared_totals = bench_sum_of_squared_totals(n: usize, flag: usize, p: usize, m: usize, blocks: &[u8], readings: &[i32], answer: &mut [u64],);
     /// Why a whole job is refused.
     refusal = bench_refusal(n: usize, flag: usize, p: usize, m: usize, blocks: &[u8], readings: &[i32], set: u64, sum: i64,);
@@ -67,11 +67,12 @@ calls! {
     /// The deviation of one block: numerator; denominator.
     deviation_of = bench_deviation_of(n: usize, flag: usize, p: usize, m: usize, blocks: &[u8], readings: &[i32], block: usize,
         signed_slots: &mut [i64], answer: &mut [u64],);
-    /// Q.
+    /// Q, in two slots, the high word first.
     q = bench_q(n: usize, flag: usize, p: usize, m: usize, blocks: &[u8], readings: &[i32], answer: &mut [u64],);
-    /// The spread: Q, v·beta, f, hundredths, whether there is a spread; the spread, 0.0 for none.
+    /// The spread, in six slots: Q in two, the high word first, v·beta, f, hundredths, whether there is a spread; the spread, 0.0 for none.
     spread = bench_spread(n: usize, flag: usize, p: usize, m: usize, blocks: &[u8], readings: &[i32], answer: &mut [u64], real: &mut [f64],);
-    /// Everything at once: v, b, r, p, L1, L2, denominator, Q, v·beta, f, hundredths, whether there is a spread; the spread, 0.0 for none.
+    /// Everything at once, in thirteen slots: v, b, r, p, L1, L2, denominator, Q in two, the high word first, v·beta, f, hundredths, whether there is a spread;
+    /// the spread, 0.0 for none.
     analyse = bench_analyse(n: usize, flag: usize, p: usize, m: usize, blocks: &[u8], readings: &[i32], set: u64, sum: i64,
         words: &mut [u64], values: &mut [i64], deviations: &mut [i64], answer: &mut [u64], real: &mut [f64],);
     /// The field at a place: where its body starts, and the byte after it.
@@ -113,6 +114,6 @@ calls! {
     /// Writes the file of a practice job: how many bytes.
     practice_file = bench_practice_file(n: usize, flag: usize, p: usize, m: usize, blocks: &[u8], truths: &[i32], start: u32, width: usize, set: u64,
         out: &mut [u8], answer: &mut [u64],);
-    /// The pooled spread of files laid end to end: as [`spread`].
+    /// The pooled spread of files laid end to end: as [`spread`], the sum of Q in two slots.
     pool = bench_pool(bytes: &[u8], lengths: &[usize], answer: &mut [u64], real: &mut [f64],);
 }

@@ -13,8 +13,9 @@
 //! # Ok::<(), mass_bench::Refusal>(())
 //! ```
 //!
-//! Calls may be made from several threads. Of the stack [`listing`] takes the most, about 99 KB, so a thread that makes calls needs about 104 KB (hosts/bench.h
-//! has the figures of each); that is measured, not proved. A thread of the standard library has 2 MB unless it is told otherwise.
+//! Calls may be made from several threads. Of the stack a call takes at most 121 KB, [`listing`] among those that take the most, so a thread that makes calls needs about
+//! 127 KB (hosts/bench.h has the figure of each, tests/stack measures them); that is measured, not proved. What the functions here add is little, but for [`company`] and
+//! [`opposition`], which hand back a table of 20 KB. A thread of the standard library has 2 MB unless it is told otherwise.
 
 pub mod calls;
 
@@ -90,24 +91,37 @@ reasons! {
 #[derive(Debug, Clone, Copy, PartialEq, Eq)]
 pub struct Refusal {
     pub reason: Reason,
-    /// The job that [`pool`] refuses; 0 in every other call.
-    pub index: u8,
+    /// The job that [`pool`] refuses, counted from 0; none where the pool itself is refused, by 18, and in every other call.
+    pub job: Option<u8>,
     pub place: u64,
 }
 
 impl fmt::Display for Refusal {
+    /// The line that the bench prints, and of a pool which job is refused.
+    ///
+    /// ```
+    /// # use mass_bench::{pool, solve};
+    /// assert_eq!(solve(&[1]).unwrap_err().to_string(), "refused 1 0");
+    /// assert_eq!(pool(&[&[1]]).unwrap_err().to_string(), "refused 1 0 in job 0");
+    /// assert_eq!(pool(&[]).unwrap_err().to_string(), "refused 18 0");
+    /// ```
     fn fmt(&self, f: &mut fmt::Formatter) -> fmt::Result {
-        write!(f, "refused {} {}", self.reason.number(), self.place)
+        write!(f, "refused {} {}", self.reason.number(), self.place)?;
+        match self.job {
+            Some(job) => write!(f, " in job {job}"),
+            None => Ok(()),
+        }
     }
 }
 
 impl std::error::Error for Refusal {}
 
-/// The refusal in what one of the [`calls`] returned, if there is one.
+/// The refusal in what one of the [`calls`] returned, if there is one. The index 0 is there that of job 0 of a pool, and of no job: it is taken for none.
 pub fn refusal_in(returned: u64) -> Result<(), Refusal> {
+    let job = Some((returned >> 8) as u8).filter(|index| *index > 0);
     match returned {
         0 => Ok(()),
-        _ => Err(Refusal { reason: Reason::of(returned as u8), index: (returned >> 8) as u8, place: returned >> 16 }),
+        _ => Err(Refusal { reason: Reason::of(returned as u8), job, place: returned >> 16 }),
     }
 }
 
@@ -902,13 +916,17 @@ pub fn practice_file(head: Head, blocks: &[u8], from: &Practice, set: u64) -> Re
 /// let pooled = pool(&[&one, &other])?;
 /// assert_eq!((pooled.q, pooled.vbeta, pooled.freedom, pooled.spread.unwrap().hundredths), (25, 5, 2, 158));
 /// let refusal = pool(&[&one, &other[..55]]).unwrap_err();
-/// assert_eq!((refusal.reason, refusal.index, refusal.place), (Reason::PastTheEnd, 1, 33));
+/// assert_eq!((refusal.reason, refusal.job, refusal.place), (Reason::PastTheEnd, Some(1), 33));
 /// # Ok::<(), mass_bench::Refusal>(())
 /// ```
 pub fn pool(files: &[&[u8]]) -> Result<Spreading, Refusal> {
     let lengths: Vec<usize> = files.iter().map(|file| file.len()).collect();
     let (mut answer, mut real) = ([0; 6], [0.0]);
-    refusal_in(calls::pool(&files.concat(), &lengths, &mut answer, &mut real))?;
+    // every refusal of a pool is that of one of its jobs, but for 18
+    refusal_in(calls::pool(&files.concat(), &lengths, &mut answer, &mut real)).map_err(|refusal| match refusal.reason {
+        Reason::BadLengths => refusal,
+        _ => Refusal { job: refusal.job.or(Some(0)), ..refusal },
+    })?;
     Ok(spreading(answer, real))
 }
 

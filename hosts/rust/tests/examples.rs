@@ -20,7 +20,7 @@ const SUM: i64 = 7;
 const C: Head = Head { n: 4, flag: 0, p: 1, m: 1 };
 
 fn refused<T>(reason: Reason, place: u64) -> Result<T, Refusal> {
-    Err(Refusal { reason, index: 0, place })
+    Err(Refusal { reason, job: None, place })
 }
 
 // ---- designs
@@ -230,7 +230,7 @@ fn files_are_read_and_solved() {
     assert_eq!(read(&example("A.job")), Ok(a));
     assert_eq!(read(&[]), refused(Reason::PastTheEnd, 0));
     let refusal = solve(&example("K-byte-added.job")).unwrap_err();
-    assert_eq!(refusal, Refusal { reason: Reason::BytesFollow, index: 0, place: 56 });
+    assert_eq!(refusal, Refusal { reason: Reason::BytesFollow, job: None, place: 56 });
     assert_eq!(refusal.to_string(), "refused 9 56");
     let e = solve(&example("E.job")).unwrap().solved.spreading;
     assert_eq!((e.freedom, e.spread), (0, None));
@@ -558,6 +558,27 @@ fn files_of_the_second_edition() {
 }
 
 #[test]
+fn names_over_fields() {
+    // nine elements opposed in pairs, of two opposite differences one: with flag 3 the fixed object is a tenth, and has a name, with flag 2 it is none
+    let pairs = [0, 1, 0, 3, 0, 4, 0, 5, 255, 0];
+    for (flag, m, v) in [(2, 4, 9), (3, 5, 10)] {
+        let (head, blocks, readings) = (Head { n: 9, flag, p: 1, m }, &pairs[..2 * m], vec![7; 9 * m]);
+        let names: Vec<Name> = (0..12).map(|object| Name([b'a' + object; 8])).collect();
+        let file = write_second(head, blocks, SET, SUM, &readings, &names[..v]).unwrap();
+        let found = read_second(&file).unwrap();
+        assert_eq!((found.names, found.job.head), (names[..v].to_vec(), head), "flag {flag}");
+        assert_eq!(listing_second(&file), listing(&write(head, blocks, SET, SUM, &readings).unwrap()), "flag {flag}");
+        // as many names as n, n + 1 and n + flag, where that is not v
+        for wrong in [9, 10, 9 + flag].into_iter().filter(|count| *count != v) {
+            assert_eq!(write_second(head, blocks, SET, SUM, &readings, &names[..wrong]), refused(Reason::WrongLength, 0), "flag {flag}, {wrong} names");
+            let four = file.len() - 3 - 8 * v;
+            let other = [&file[..four], &[0x80, 0, 8 * wrong as u8], &[b' '; 96][..8 * wrong]].concat();
+            assert_eq!(read_second(&other), refused(Reason::WrongLength, four as u64), "flag {flag}, {wrong} names");
+        }
+    }
+}
+
+#[test]
 fn names_of_the_second_edition() {
     let names = [*b"a       ", *b"b  b    ", *b"\xFF       ", *b"        ", *b"12345678"].map(Name);
     let file = write_second(A, &BLOCKS, SET, SUM, &READINGS, &names).unwrap();
@@ -810,21 +831,23 @@ fn jobs_are_pooled() {
     let nine = write(Head { n: 3, flag: 0, p: 1, m: 9 }, &[0, 1].repeat(9), SET, 0, &[200_000_000; 27]).unwrap();
     let wide = pool(&[&nine[..]; 64]).unwrap();
     assert_eq!((wide.q, wide.freedom, wide.spread.unwrap().hundredths), (64 * 29_160_000_000_000_000_000, 1600, 20_784_609_690));
-    for (files, number, index, place) in [
-        (vec![], 18, 0, 0),
-        (vec![&a[..]; 65], 18, 0, 0),
-        (vec![&a, &[]], 1, 1, 0),
-        (vec![&a, &a, &a[..55]], 1, 2, 33),
-        (vec![&a, &b, &a[..55]], 1, 2, 33),
-        (vec![&a, &a, &b, &e], 17, 2, 0),
-        (vec![&e, &a], 17, 1, 0),
+    for (files, number, job, place, told) in [
+        (vec![], 18, None, 0, "refused 18 0"),
+        (vec![&a[..]; 65], 18, None, 0, "refused 18 0"),
+        (vec![&a[..55], &a], 1, Some(0), 33, "refused 1 33 in job 0"),
+        (vec![&a, &[]], 1, Some(1), 0, "refused 1 0 in job 1"),
+        (vec![&a, &a, &a[..55]], 1, Some(2), 33, "refused 1 33 in job 2"),
+        (vec![&a, &b, &a[..55]], 1, Some(2), 33, "refused 1 33 in job 2"),
+        (vec![&a, &a, &b, &e], 17, Some(2), 0, "refused 17 0 in job 2"),
+        (vec![&e, &a], 17, Some(1), 0, "refused 17 0 in job 1"),
     ] {
         let refusal = pool(&files).unwrap_err();
-        assert_eq!((refusal.reason.number(), refusal.index, refusal.place), (number, index, place), "{} files", files.len());
+        assert_eq!((refusal.reason.number(), refusal.job, refusal.place), (number, job, place), "{} files", files.len());
+        assert_eq!(refusal.to_string(), told);
     }
     // another beta: the same pairs twice
     let twice = write(Head { n: 7, flag: 1, p: 1, m: 8 }, &objects.repeat(2), SET, 0, &[1; 56]).unwrap();
-    assert_eq!(pool(&[&pairs, &twice]), Err(Refusal { reason: Reason::UnlikeJobs, index: 1, place: 0 }));
+    assert_eq!(pool(&[&pairs, &twice]), Err(Refusal { reason: Reason::UnlikeJobs, job: Some(1), place: 0 }));
 }
 
 #[test]

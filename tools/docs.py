@@ -2,12 +2,12 @@
 """tools/docs.py [--check], at the top of the repository: holds the pages in docs/ to the tree.
 
 The line counts of docs/READING.md are written (with --check: compared). Every name in backquotes on the pages, every room/wrong_answer and every path must be
-in the tree: a definition, a function, an edit, a file. What is not is printed, and the status is 1."""
+in the tree: a definition, a function, an edit, a file. What is not is printed, and the status is 1. So it is with tests/count/README.md, which lists its files."""
 import pathlib
 import re
 import sys
 
-PAGES = ["README.md"] + [f"docs/{p}.md" for p in ("READING", "PROMISES", "DECISIONS", "TRACE", "CHECKING", "SPEED", "WORKING")]
+PAGES = ["README.md", "tests/count/README.md"] + [f"docs/{p}.md" for p in ("READING", "PROMISES", "DECISIONS", "TRACE", "CHECKING", "SPEED", "WORKING")]
 PLACES = ("crates", "hosts", "tests", "tools", "examples", ".ci")
 FOREIGN = {"xxd"}
 SOURCES = {".rt", ".antt", ".rs", ".py", ".h", ".c", ".toml", ".txt", ".edit", ""}
@@ -44,10 +44,13 @@ def strange(pages):
     words |= {f.stem for f in files} | {f.name for f in files} | {f.name for f in pathlib.Path("crates").iterdir()}
     words |= {piece for w in list(words) for piece in re.split(r"[^\w′ᶠ₀-₉'-]+", w)}
     rooms = {f.name for f in pathlib.Path("crates").iterdir()}
+    names = {f.name for f in files}
     for page, text in pages.items():
         prose = re.sub(r"```.*?```", "", text, flags=re.S)
         prose = re.sub(r"^    .*$", "", prose, flags=re.M)
         for quoted in re.findall(r"`([^`\n]+)`", prose):
+            if re.fullmatch(r"[\w-]+\.(rs|rt|antt|py|edit|h|c)", quoted) and quoted not in names:
+                yield f"{page}: `{quoted}`: no such file"
             for name in re.findall(r"[A-Za-z_][\w′-]*[\w′]", quoted if " " not in quoted else ""):
                 if name not in words and name not in FOREIGN:
                     yield f"{page}: `{quoted}`: no {name} in the tree"

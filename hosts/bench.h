@@ -67,7 +67,7 @@
  *     5 KB | bench_develop, bench_develop_initial
  *     1 KB | bench_pairs_refusal, bench_sum_of_squares, bench_field_at
  * A thread that makes any of them needs about 127 KB with what the thread itself takes. That is measured with the archive for x86-64 on
- * every stored job, with room and with none (tests/stack/run); it hardly depends on the job.
+ * every stored job that is accepted, with room and with none (tests/stack/run); it is the same on all of them.
  */
 #ifndef BENCH_H
 #define BENCH_H

@@ -26,6 +26,8 @@ struct Job {
     file: Vec<u8>,
     names: Vec<u8>,
     second: Vec<u8>,
+    /// The file in the second edition without names, which can be moved back.
+    second_plain: Vec<u8>,
     /// The members of each object, as many as make no more than 50 objects; two where there are none so few.
     g: usize,
     /// The developed blocks as lists, and a group for each two objects.
@@ -61,6 +63,7 @@ impl Job {
             last_object: v - 1,
             names,
             second,
+            second_plain: mass_bench::to_second(&file).ok()?,
             g: (50 / v).max(2),
             list,
             groups: (0..v as u8).map(|object| object / 2).collect(),
@@ -163,7 +166,7 @@ const CALLS: &[Call] = rows! { job rooms:
     solve_second(&job.second, &mut rooms.words, &mut rooms.values, &mut rooms.deviations, &mut rooms.answer, &mut rooms.real);
     write_second(head, &job.blocks, job.set, job.sum, &job.readings, &job.names, &mut rooms.out, &mut rooms.answer);
     to_second(&job.file, &mut rooms.out, &mut rooms.answer);
-    to_first(&job.second, &mut rooms.out, &mut rooms.answer);
+    to_first(&job.second_plain, &mut rooms.out, &mut rooms.answer);
     listing_second(&job.second, &mut rooms.out, &mut rooms.answer);
     check_parts(head, &job.blocks, &job.readings, job.set, job.sum, &job.claims, job.has_spread, job.spread, job.freedom, &mut rooms.answer);
     check_file(&job.file, &job.claims, job.has_spread, job.spread, job.freedom, &mut rooms.answer);
@@ -181,19 +184,19 @@ fn paint(place: usize) -> u64 {
     (place as u64).wrapping_mul(0x9E37_79B9_7F4A_7C15) | 1
 }
 
-/// The bytes of the stack that a call takes, what is passed to it included.
+/// The bytes of the stack that a call takes, what is passed to it included, and whether it accepts.
 #[inline(never)]
-fn taken(call: &Call, job: &Job, rooms: &mut Rooms) -> usize {
+fn taken(call: &Call, job: &Job, rooms: &mut Rooms) -> (usize, bool) {
     let top: usize;
     // Sound: it reads the stack pointer and nothing else.
     unsafe { std::arch::asm!("mov {}, rsp", out(reg) top, options(nomem, nostack, preserves_flags)) };
     let places = (top - PAINTED..top - OWN).step_by(8);
     // Sound: the thread's stack is larger by far, and nothing that is in use lies below what this function has for its own.
     places.clone().for_each(|place| unsafe { (place as *mut u64).write_volatile(paint(place)) });
-    std::hint::black_box((call.1)(job, rooms));
+    let returned = std::hint::black_box((call.1)(job, rooms));
     let lowest = places.clone().find(|place| unsafe { (*place as *const u64).read_volatile() } != paint(*place)).unwrap_or(top - OWN);
     assert!(lowest > top - PAINTED, "{} takes more than is painted", call.0);
-    top - lowest
+    (top - lowest, returned == 0)
 }
 
 /// The calls that hosts/bench.h declares: each must have its row.
@@ -270,15 +273,15 @@ fn least() -> usize {
 
 const PAGE: usize = 4096;
 
-/// The most and the least that each call takes on any of the jobs with all its room, or, for the most, with none.
+/// The most that each call takes on any of the jobs, with all the room that it asks for, where it must accept some of them, and with none; and the least where it accepts.
 fn measured() -> Vec<(usize, usize, &'static str)> {
     let (jobs, mut enough, mut none) = (jobs(), Rooms::enough(), Rooms::none());
     let mut found = Vec::new();
     for call in CALLS {
-        let with_room: Vec<usize> = jobs.iter().map(|job| taken(call, job, &mut enough)).collect();
-        let with_none = jobs.iter().map(|job| taken(call, job, &mut none));
-        let most = with_none.chain(with_room.iter().copied()).max().expect("accepted jobs");
-        found.push((most, *with_room.iter().min().expect("accepted jobs"), call.0));
+        let accepted: Vec<usize> = jobs.iter().map(|job| taken(call, job, &mut enough)).filter_map(|(bytes, accepts)| accepts.then_some(bytes)).collect();
+        let none_lent = jobs.iter().map(|job| taken(call, job, &mut none).0);
+        let least = *accepted.iter().min().unwrap_or_else(|| panic!("{} accepts no job", call.0));
+        found.push((none_lent.chain(accepted).max().expect("jobs"), least, call.0));
     }
     found.sort_by(|a, b| b.cmp(a));
     found

@@ -5,6 +5,7 @@ pub mod Boundaries
 pub mod Editions
 pub mod Sheets
 pub mod SheetTexts
+pub mod Cards
 pub mod Practising
 pub mod Pooling
 pub mod Addition

@@ -15,3 +15,5 @@ pub mod Sheet
 pub mod SheetText
 pub mod Practice
 pub mod Pooled
+pub mod Card
+pub mod CardText

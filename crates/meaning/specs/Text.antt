@@ -2,11 +2,11 @@
 use Prim.Native.Nat.{ℕ, zero, suc, _+_, _/_, _%_}
 use Prim.Native.Char.{code}
 use Prim.Native.String.{String, [] as none, _∷_ as _then_}
-use mathlib.Core.Bool.{cond}
+use mathlib.Core.Bool.{cond, not, _&&_}
 use mathlib.Core.List.{List, [], _∷_, _++_}
 use lib.ListN.{take, drop, length}
 use lib.IntN.{ℤ, pos, negsuc}
-use lib.Dec.{ltb}
+use lib.Dec.{eqb, ltb}
 use Rattle.records.specs.declared.Head.{Head}
 use Rattle.records.specs.declared.Parameters.{Parameters}
 use Rattle.records.specs.declared.Spread.{Spread}
@@ -51,6 +51,30 @@ signedText (negsuc n) = 32 ∷ 45 ∷ digits 20 (suc n)
 unfoldable pub each : ℕ → (ℕ → List ℕ) → List ℕ
 each zero f = []
 each (suc n) f = each n f ++ f n
+
+-- a digit of base 16, and a byte in two of them
+abbrev pub hexLetter : ℕ → ℕ
+hexLetter d = cond (ltb d 10) (48 + d) (55 + d)
+
+abbrev pub hexText : ℕ → List ℕ
+hexText x = hexLetter (x / 16) ∷ hexLetter (x % 16) ∷ []
+
+-- a name as it is shown: a byte from ! to ~ but # and \ as itself, any other as \xNN, so that no name breaks a line or a column
+abbrev pub escapedByte : ℕ → List ℕ
+escapedByte x = cond (ltb 32 x && (ltb x 127 && (not (eqb x 35) && not (eqb x 92)))) (x ∷ []) (92 ∷ 120 ∷ hexText x)
+
+unfoldable pub escaped : List ℕ → List ℕ
+escaped [] = []
+escaped (x ∷ s) = escapedByte x ++ escaped s
+
+-- a name without the spaces that fill it up
+unfoldable pub trimmed : List ℕ → List ℕ
+trimmed [] = []
+trimmed (x ∷ s) = cond (eqb x 32 && eqb (length (trimmed s)) 0) [] (x ∷ trimmed s)
+
+-- a name of a file, in which spaces fill it up; one of spaces alone shows its first
+unfoldable pub nameText : List ℕ → List ℕ
+nameText s = cond (eqb (length (trimmed s)) 0) (escaped (32 ∷ [])) (escaped (trimmed s))
 
 -- a line: its first word, its numbers, a newline
 abbrev pub line : String → List ℕ → List ℕ

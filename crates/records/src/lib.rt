@@ -225,3 +225,24 @@ pub struct Pooled {
     pub index: usize,
     pub spreading: Spreading,
 }
+
+// A card as far as its words go: what the next word is to be, by the list beside the definition; whether the last one was not what it was to be; the sizes; how
+// many objects of a side or names there are, or the last tag; the restraint; how many readings there are, and bytes of the file that the words give.
+pub struct Card {
+    pub wants: usize,
+    pub bad: bool,
+    pub head: Head,
+    pub count: usize,
+    pub set: u64,
+    pub sum: i64,
+    pub readings: usize,
+    pub length: usize,
+}
+
+// The answer of the call that makes the file of a card: the verdict, whose place is a byte of the card; what was wanted where the card cannot be read, else 0;
+// and how many bytes were written.
+pub struct CardRead {
+    pub verdict: Verdict,
+    pub wants: usize,
+    pub length: usize,
+}

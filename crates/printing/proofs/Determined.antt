@@ -23,6 +23,15 @@ use Rattle.printing.proofs.put_byte.Reads as put-byte-reads
 use Rattle.printing.proofs.put_text as put-text
 use Rattle.printing.proofs.put_text.Kinds as put-text-kinds
 use Rattle.printing.proofs.put_text.Reads as put-text-reads
+use Rattle.printing.proofs.names.put_hex as put-hex
+use Rattle.printing.proofs.names.put_hex.Kinds as put-hex-kinds
+use Rattle.printing.proofs.names.put_hex.Reads as put-hex-reads
+use Rattle.printing.proofs.names.put_escaped as put-escaped
+use Rattle.printing.proofs.names.put_escaped.Kinds as put-escaped-kinds
+use Rattle.printing.proofs.names.put_escaped.Reads as put-escaped-reads
+use Rattle.printing.proofs.names.put_name as put-name
+use Rattle.printing.proofs.names.put_name.Kinds as put-name-kinds
+use Rattle.printing.proofs.names.put_name.Reads as put-name-reads
 use Rattle.printing.proofs.octets.put_bytes as put-bytes
 use Rattle.printing.proofs.octets.put_bytes.Kinds as put-bytes-kinds
 use Rattle.printing.proofs.octets.put_bytes.Reads as put-bytes-reads
@@ -69,6 +78,30 @@ module _ (κs : Lfts 2) (a : ArgsD put-text.signature κs) (r q : ResD put-text.
       (now (s .0) ≡ now (t .0))
       × (r ≡ q)
   put-text-determined p e = wrote-determines p e
+
+-- `put_hex`: `out`, the place
+module _ (κs : Lfts 1) (a : ArgsD put-hex.signature κs) (r q : ResD put-hex.signature κs)
+    (s t : AtExit (endedOf 1 put-hex-kinds.ps put-hex-kinds.r) κs) where
+  pub put-hex-determined : put-hex-reads.Post κs a r s → put-hex-reads.Post κs a q t →
+      (now (s .0) ≡ now (t .0))
+      × (r ≡ q)
+  put-hex-determined p e = wrote-determines p e
+
+-- `put_escaped`: `out`, the place
+module _ (κs : Lfts 2) (a : ArgsD put-escaped.signature κs) (r q : ResD put-escaped.signature κs)
+    (s t : AtExit (endedOf 2 put-escaped-kinds.ps put-escaped-kinds.r) κs) where
+  pub put-escaped-determined : put-escaped-reads.Post κs a r s → put-escaped-reads.Post κs a q t →
+      (now (s .0) ≡ now (t .0))
+      × (r ≡ q)
+  put-escaped-determined p e = wrote-determines p e
+
+-- `put_name`: `out`, the place
+module _ (κs : Lfts 2) (a : ArgsD put-name.signature κs) (r q : ResD put-name.signature κs)
+    (s t : AtExit (endedOf 2 put-name-kinds.ps put-name-kinds.r) κs) where
+  pub put-name-determined : put-name-reads.Post κs a r s → put-name-reads.Post κs a q t →
+      (now (s .0) ≡ now (t .0))
+      × (r ≡ q)
+  put-name-determined p e = wrote-determines p e
 
 -- `put_bytes`: `out`, the place
 module _ (κs : Lfts 1) (a : ArgsD put-bytes.signature κs) (r q : ResD put-bytes.signature κs)

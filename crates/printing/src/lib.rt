@@ -1,11 +1,15 @@
-// What is put into lent bytes from a place on: bytes, words, numbers in digits, numbers as their bytes. Each function answers the place after what it
+// What is put into lent bytes from a place on: bytes, words, numbers in digits, numbers as their bytes, names. Each function answers the place after what it
 // put; what is past the end is dropped, and counted.
 mod decimals;
+mod names;
 mod octets;
 
 pub use decimals::put_number;
 pub use decimals::put_signed;
 pub use decimals::put_wide;
+pub use names::put_escaped;
+pub use names::put_hex;
+pub use names::put_name;
 pub use octets::bits;
 pub use octets::put_bytes;
 ghost use mathlib.Core.List.{[], _∷_};

@@ -1,0 +1,2 @@
+-- The laws of names as they are shown.
+pub mod Shown

@@ -12,6 +12,9 @@ use Rattle.balance.proofs.counting.count_company.Reads as count-company
 use Rattle.balance.proofs.counting.count_opposition as count-opposition
 use Rattle.balance.proofs.counting.count_opposition.Kinds as count-opposition-kinds
 use Rattle.balance.proofs.counting.count_opposition.Reads as count-opposition-reads
+use Rattle.balance.proofs.differences.judge_by_differences as judge-by-differences
+use Rattle.balance.proofs.differences.judge_by_differences.Kinds as judge-by-differences-kinds
+use Rattle.balance.proofs.differences.judge_by_differences.Reads as judge-by-differences-reads
 use Rattle.balance.proofs.tables.company as company
 use Rattle.balance.proofs.tables.company.Kinds as company-kinds
 use Rattle.balance.proofs.tables.company.Reads as company-reads
@@ -35,6 +38,13 @@ module _ (κs : Lfts 1) (a : ArgsD count-opposition.signature κs) (r q : ResD c
   pub count-opposition-determined : count-opposition-reads.Post κs a r s → count-opposition-reads.Post κs a q t →
       r ≡ q
   count-opposition-determined p e = p ∙ sym e
+
+-- `judge_by_differences`: the answer
+module _ (κs : Lfts 1) (a : ArgsD judge-by-differences.signature κs) (r q : ResD judge-by-differences.signature κs)
+    (s t : AtExit (endedOf 1 judge-by-differences-kinds.ps judge-by-differences-kinds.r) κs) where
+  pub judge-by-differences-determined : judge-by-differences-reads.Post κs a r s → judge-by-differences-reads.Post κs a q t →
+      r ≡ q
+  judge-by-differences-determined p e = p ∙ sym e
 
 -- `company`: the answer
 module _ (κs : Lfts 1) (a : ArgsD company.signature κs) (r q : ResD company.signature κs)

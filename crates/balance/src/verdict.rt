@@ -11,10 +11,10 @@ use verdicts::is_refused;
 use verdicts::no_judgement;
 use words::ones;
 ghost use mathlib.Core.Path.{_≡_};
-ghost use Prim.Native.Nat.{_-_, _≤_};
+ghost use Prim.Native.Nat.{_+_, _-_, _≤_};
 ghost use Rattle.algebra.specs.Tables.{entry};
 ghost use Rattle.meaning.specs.Calls.{judged};
-ghost use Rattle.balance.specs.Tables.{rowEven, tablesEven, tablesJudged};
+ghost use Rattle.balance.specs.Tables.{rowEven, tablesEven, judgedBy, tablesJudged};
 
 // The verdict on a design, with its parameters where it is balanced. The design is developed once; the side size is that of a side's word.
 pub fn judge(head: Head, blocks: &[u8]) -> Judged
@@ -33,7 +33,7 @@ pub fn judge(head: Head, blocks: &[u8]) -> Judged
     judge_tables(v, b, p, company, opposition)
 }
 
-// The verdict on two tables of v objects in b blocks with p objects a side, and the parameters where every pair has the same entries.
+// The verdict on two tables of v objects in b blocks with p objects a side, and the parameters where every pair has the entries of the objects 1 and 0.
 fn judge_tables(
     v: usize,
     b: usize,
@@ -46,7 +46,16 @@ fn judge_tables(
 {
     let l1 = company[1][0];
     let l2 = opposition[1][0];
-    if !tables_even(&company, &opposition, v, l1, l2) {
+    let even = tables_even(&company, &opposition, v, l1, l2);
+    judgement(even, v, b, p, l1, l2)
+}
+
+// The judgement where every two of v objects share a side l1 times and oppose l2 times; where they do not, they are unbalanced.
+pub(crate) fn judgement(even: bool, v: usize, b: usize, p: u64, l1: u64, l2: u64) -> Judged
+    requires { ⌜ (1 ≤ v) × (v ≤ 50) × (l2 ≤ 2600) ⌝ }
+    ensures { λ r. ⌜ r ≡ judgedBy even v b p l1 l2 ⌝ }
+{
+    if !even {
         return no_judgement(Verdict::Refused(6, 0));
     }
     let beta = less(l2, l1);
@@ -65,12 +74,20 @@ fn judge_tables(
     }
 }
 
-// Whether the first i entries of a row of each table are l1 and l2.
-fn row_even(company: &[u64; 50], opposition: &[u64; 50], i: usize, l1: u64, l2: u64) -> bool
-    requires { ⌜ i ≤ 50 ⌝ }
-    ensures { λ r. ⌜ r ≡ rowEven (now (company .entry)) (now (opposition .entry)) l1 l2 i ⌝ }
+// Whether so many entries of a row of each table, from one on, are l1 and l2.
+pub(crate) fn row_even(
+    company: &[u64; 50],
+    opposition: &[u64; 50],
+    from: usize,
+    count: usize,
+    l1: u64,
+    l2: u64,
+) -> bool
+    requires { ⌜ count + from ≤ 50 ⌝ }
+    ensures { λ r. ⌜ r ≡ rowEven (now (company .entry)) (now (opposition .entry)) l1 l2 from count ⌝ }
 {
-    for j in 0..i {
+    for k in 0..count {
+        let j = k + from;
         if company[j] != l1 {
             return false;
         }
@@ -93,7 +110,7 @@ fn tables_even(
     ensures { λ r. ⌜ r ≡ tablesEven (now (company .entry)) (now (opposition .entry)) l1 l2 v ⌝ }
 {
     for i in 0..v {
-        if !row_even(&company[i], &opposition[i], i, l1, l2) {
+        if !row_even(&company[i], &opposition[i], 0, i, l1, l2) {
             return false;
         }
     }

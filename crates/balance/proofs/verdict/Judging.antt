@@ -1,11 +1,11 @@
--- The judgement over two tables, by what its tests gave.
+-- The judgement, by what its tests gave.
 --     pair-company-other, pair-opposition-other, pair-even    the test of one pair
 --     tables-none, tables-more, tables-fail                   one turn of the test over two tables
---     tables-refused, tables-accepted                         the judgement
+--     uneven-judged, even-judged                              the judgement
 -- Assumes nothing.
 use Prim.Native.Nat.{ℕ, _+_, _-_, _*_, _<_}
 use mathlib.Core.Path.{_≡_, refl}
-use mathlib.Core.Bool.{true, false}
+use mathlib.Core.Bool.{Bool, true, false}
 use mathlib.Core.List.{List, []}
 use borrow.Author.Tests.{eq-eqb, ne-eqb}
 use lib.ListN.{getD}
@@ -13,8 +13,7 @@ use Rattle.algebra.proofs.Tests.{all-more, all-fails}
 use Rattle.records.specs.declared.Judged.{Judged}
 use Rattle.meaning.specs.Refusals.{accepted, refused}
 use Rattle.meaning.specs.Calls.{noParameters}
-use Rattle.algebra.specs.Tables.{entry}
-use Rattle.balance.specs.Tables.{pairEven, rowEven, tablesEven, tablesJudged}
+use Rattle.balance.specs.Tables.{pairEven, rowEven, tablesEven, judgedBy}
 
 -- ---- the test of one pair
 
@@ -40,26 +39,26 @@ module _ (c o : List (List ℕ)) (l1 l2 : ℕ) where
   tables-none = refl
 
   -- one row more
-  pub tables-more : (i : ℕ) → tablesEven c o l1 l2 i ≡ true → rowEven (getD c i []) (getD o i []) l1 l2 i ≡ true → tablesEven c o l1 l2 (i + 1) ≡ true
+  pub tables-more : (i : ℕ) → tablesEven c o l1 l2 i ≡ true → rowEven (getD c i []) (getD o i []) l1 l2 0 i ≡ true → tablesEven c o l1 l2 (i + 1) ≡ true
   unfolding tablesEven
   tables-more i before here = all-more i _ before here
 
   -- a row that fails
-  pub tables-fail : (v i : ℕ) → i < v → rowEven (getD c i []) (getD o i []) l1 l2 i ≡ false → tablesEven c o l1 l2 v ≡ false
+  pub tables-fail : (v i : ℕ) → i < v → rowEven (getD c i []) (getD o i []) l1 l2 0 i ≡ false → tablesEven c o l1 l2 v ≡ false
   unfolding tablesEven
   tables-fail v i l here = all-fails v i _ l here
 
 -- ---- the judgement
 
--- over two tables that fail the test of every pair
-pub tables-refused : (v b p : ℕ) (c o : List (List ℕ)) {j : Judged} → tablesEven c o (entry c 1 0) (entry o 1 0) v ≡ false
-    → j ≡ record { verdict = refused 6 0; parameters = noParameters } → j ≡ tablesJudged v b p c o
-unfolding tablesJudged
-tables-refused v b p c o f is = rw f is
+-- where some two meet otherwise than the objects 1 and 0
+pub uneven-judged : (v b p l1 l2 : ℕ) {even : Bool} {j : Judged} → even ≡ false
+    → j ≡ record { verdict = refused 6 0; parameters = noParameters } → j ≡ judgedBy even v b p l1 l2
+unfolding judgedBy
+uneven-judged v b p l1 l2 f is = rw f is
 
--- over two that pass it, from each parameter
-pub tables-accepted : (v b p : ℕ) (c o : List (List ℕ)) (v′ b′ r′ p′ l1′ l2′ : ℕ) → tablesEven c o (entry c 1 0) (entry o 1 0) v ≡ true
-    → v′ ≡ v → b′ ≡ b → r′ ≡ (entry o 1 0 - entry c 1 0) * (v - 1) → p′ ≡ p → l1′ ≡ entry c 1 0 → l2′ ≡ entry o 1 0
-    → _≡_ {A = Judged} (record { verdict = accepted; parameters = record { v = v′; b = b′; r = r′; p = p′; l1 = l1′; l2 = l2′ } }) (tablesJudged v b p c o)
-unfolding tablesJudged
-tables-accepted v b p c o v′ b′ r′ p′ l1′ l2′ f ev eb er ep e1 e2 = rw (f, ev, eb, er, ep, e1, e2)
+-- where every two meet alike, from each parameter
+pub even-judged : (v b p l1 l2 : ℕ) {even : Bool} (v′ b′ r′ p′ l1′ l2′ : ℕ) → even ≡ true
+    → v′ ≡ v → b′ ≡ b → r′ ≡ (l2 - l1) * (v - 1) → p′ ≡ p → l1′ ≡ l1 → l2′ ≡ l2
+    → _≡_ {A = Judged} (record { verdict = accepted; parameters = record { v = v′; b = b′; r = r′; p = p′; l1 = l1′; l2 = l2′ } }) (judgedBy even v b p l1 l2)
+unfolding judgedBy
+even-judged v b p l1 l2 v′ b′ r′ p′ l1′ l2′ f ev eb er ep e1 e2 = rw (f, ev, eb, er, ep, e1, e2)

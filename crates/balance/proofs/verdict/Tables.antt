@@ -2,9 +2,9 @@
 --     tables-tell, first-most, side-size      what the tables and the words of an accepted block list say
 --     judged-refused, judged-accepted         the answer of the call
 -- Assumes nothing.
-use Prim.Native.Nat.{ℕ, _*_, _≤_, _<_}
+use Prim.Native.Nat.{ℕ, _+_, _*_, _≤_, _<_}
 use mathlib.Core.Path.{_≡_, sym, ap, ap₂, _∙_}
-use mathlib.Core.Bool.{true, false, _&&_}
+use mathlib.Core.Bool.{Bool, true, false, _&&_}
 use mathlib.Core.List.{List}
 use native.Mathlib.Nat.{add-le-add, mul-le-mul}
 use native.Mathlib.Omega.{arith}
@@ -28,16 +28,22 @@ use Rattle.verdicts.proofs.Told.{refusing}
 use Rattle.meaning.specs.Analysis.{member}
 use Rattle.words.proofs.Members.{ones-word}
 use Rattle.algebra.specs.Tables.{entry}
-use Rattle.balance.specs.Tables.{tablesEven, tablesJudged}
+use Rattle.balance.specs.Tables.{tablesEven, judgedBy}
 
 -- ---- the tables of a sound design
 
 module _ (h : Head) (d : List ℕ) (s : Sound h d) where
+  -- a row is tested from its first column on
+  first : (j : ℕ) → j + 0 ≡ j
+  first j = omega arith
+
   -- an entry is that of the objects 1 and 0 just where the counts are
-  same : (f : ℕ → ℕ → ℕ) (i j : ℕ) → i < objects h → j < i → eqb (entry (tableOf (objects h) f) i j) (entry (tableOf (objects h) f) 1 0) ≡ eqb (f i j) (f 1 0)
+  same : (f : ℕ → ℕ → ℕ) (i j : ℕ) → i < objects h → j < i →
+      eqb (entry (tableOf (objects h) f) i (j + 0)) (entry (tableOf (objects h) f) 1 0) ≡ eqb (f i j) (f 1 0)
   same f i j l m =
       let fit = s .sizes in
-      ap₂ eqb (entry-of (objects h) f i j (omega arith) l (omega arith)) (entry-of (objects h) f 1 0 (omega arith) (omega arith) (omega arith))
+      ap₂ eqb (ap (entry (tableOf (objects h) f) i) (first j) ∙ entry-of (objects h) f i j (omega arith) l (omega arith))
+      (entry-of (objects h) f 1 0 (omega arith) (omega arith) (omega arith))
 
   -- the test over the two tables of a sound design is the test of balance
   pub tables-balanced : (let c = tableOf (objects h) (company h d) in let o = tableOf (objects h) (opposition h d) in
@@ -49,7 +55,7 @@ module _ (h : Head) (d : List ℕ) (s : Sound h d) where
 
 module _ (h : Head) (d : List ℕ) where
   -- no two objects oppose more often than twice a block
-  opposition-most : Sound h d → (i j : ℕ) → opposition h d i j ≤ blocks h * 2
+  pub opposition-most : Sound h d → (i j : ℕ) → opposition h d i j ≤ blocks h * 2
   unfolding opposition
   opposition-most s i j = sumℕ-le-const (blocks h) 2 _
       (λ k l. add-le-add (mul-le-mul (left-once k l i) (right-once k l j)) (mul-le-mul (right-once k l i) (left-once k l j)))
@@ -110,9 +116,8 @@ pub judged-refused : (h : Head) (d : List ℕ) (v : Verdict) → v ≡ designVer
 unfolding judgeVerdict
 judged-refused h d v e r = rw (sym e ∙ refusing v r) (ap noJudgement (refusing v r))
 
--- it is accepted: the judgement is that over the two tables
-pub judged-accepted : (h : Head) (d : List ℕ) (v p : ℕ) (c o : List (List ℕ)) → designVerdict h d ≡ accepted → v ≡ objects h
-    → tablesEven c o (entry c 1 0) (entry o 1 0) (objects h) ≡ balanced h d → p ≡ h .p → entry c 1 0 ≡ company h d 1 0 → entry o 1 0 ≡ opposition h d 1 0
-    → tablesJudged v (blocks h) p c o ≡ judged h d
-unfolding judgeVerdict tablesJudged beta
-judged-accepted h d v p c o e ev f ep e1 e2 = rw (e, ev, f, ep, e1, e2)
+-- it is accepted: the judgement is by a test over the objects that is that of balance, and by the two counts of the objects 1 and 0
+pub judged-accepted : (h : Head) (d : List ℕ) (even : ℕ → Bool) (v p l1 l2 : ℕ) → designVerdict h d ≡ accepted → v ≡ objects h
+    → even (objects h) ≡ balanced h d → p ≡ h .p → l1 ≡ company h d 1 0 → l2 ≡ opposition h d 1 0 → judgedBy (even v) v (blocks h) p l1 l2 ≡ judged h d
+unfolding judgeVerdict judgedBy beta
+judged-accepted h d even v p l1 l2 e ev f ep e1 e2 = rw (e, ev, f, ep, e1, e2)

@@ -8,6 +8,7 @@ use Rattle.meaning.specs.Calls.{designVerdict, companyTable, oppositionTable}
 use Rattle.design.proofs.Within.{within-sizes}
 use Rattle.laws.proofs.Chains.{sound}
 use Rattle.verdicts.proofs.Told.{accepting}
+use Rattle.balance.specs.Tables.{tablesEven}
 use Rattle.balance.proofs.counting.Developed.{room-enough, words-left, company-table, opposition-table}
 use Rattle.balance.proofs.verdict.Tables.{side-size, tables-tell, first-most, company-first, opposition-first, judged-refused, judged-accepted}
 use native.Mathlib.Omega.{arith}
@@ -80,7 +81,7 @@ returns-2 c =
     ∙ side-size _ _ e _ refl (words-left _ _ _ refl
     (c .before .before .before .before .before .before .before .before .before .before .before .develop .ensures .1) e) in
     c .judge-tables .ensures
-    ∙ judged-accepted _ _ _ _ _ _ e (v t) (tables-tell _ _ e (company t) (opposition t)) p (company-first _ _ e (company t) (opposition t))
+    ∙ judged-accepted _ _ (tablesEven _ _ _ _) _ _ _ _ e (v t) (tables-tell _ _ e (company t) (opposition t)) p (company-first _ _ e (company t) (opposition t))
     (opposition-first _ _ e (company t) (opposition t))
 
 pub judge-spec : {M : Type 1} → statement M

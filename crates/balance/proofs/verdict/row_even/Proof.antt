@@ -1,7 +1,8 @@
--- `balance::verdict::row_even` meets its contract: every object before j passed the test. Assumes nothing.
-use Prim.Native.Nat.{ℕ, _≤_, _-_}
+-- `balance::verdict::row_even` meets its contract: every entry before k passed the test. Assumes nothing.
+use Prim.Native.Nat.{ℕ, _+_, _≤_, _-_}
 use mathlib.Core.Path.{_≡_, refl, sym, ap, _∙_}
-use mathlib.Core.Bool.{true}
+use mathlib.Core.Bool.{Bool, true}
+use mathlib.Core.List.{List}
 use denote.Ref.{now}
 use Rattle.algebra.proofs.Tests.{all-more, all-fails}
 use Rattle.balance.specs.Tables.{pairEven, rowEven}
@@ -12,10 +13,14 @@ use Rattle.balance.proofs.verdict.row_even.Statement.{statement}
 use Rattle.balance.proofs.verdict.row_even.Tie as tie
 
 abbrev Inv-loop : tie.InvT-loop
-Inv-loop company opposition i l1 l2 j₀ j = (j ≤ i) × (rowEven company opposition l1 l2 j ≡ true)
+Inv-loop company opposition from count l1 l2 k₀ k = (k ≤ count) × (rowEven company opposition l1 l2 from k ≡ true)
 
 abbrev μ-loop : tie.MeasureT-loop
-μ-loop company opposition i l1 l2 j₀ j = i - j
+μ-loop company opposition from count l1 l2 k₀ k = count - k
+
+-- the test of one entry
+abbrev at : List ℕ → List ℕ → ℕ → ℕ → ℕ → ℕ → Bool
+at company opposition l1 l2 from k = pairEven company opposition l1 l2 (k + from)
 
 loop-holds : tie.Need-loop-holds Inv-loop μ-loop
 loop-holds c = (search needs, refl)
@@ -24,32 +29,31 @@ returns : tie.Need-returns Inv-loop μ-loop
 returns c =
     let a = c .before .before .before .before .args in
     let l = c .before .before .before .loop in
-    sym (all-fails (a .i) (l .j) (pairEven (now (a .company)) (now (a .opposition)) (a .l1) (a .l2)) (c .before .before .loop-test .taken)
-    (pair-company-other (now (a .company)) (now (a .opposition)) (a .l1) (a .l2) (l .j) (search needs)))
+    sym (all-fails (a .count) (l .k) (at (now (a .company)) (now (a .opposition)) (a .l1) (a .l2) (a .from)) (c .before .before .loop-test .taken)
+    (pair-company-other (now (a .company)) (now (a .opposition)) (a .l1) (a .l2) (l .k + a .from) (search needs)))
 
 returns-2 : tie.Need-returns-2 Inv-loop μ-loop
 returns-2 c =
     let a = c .before .before .before .before .before .before .args in
     let l = c .before .before .before .before .before .loop in
-    sym (all-fails (a .i) (l .j) (pairEven (now (a .company)) (now (a .opposition)) (a .l1) (a .l2))
-    (c .before .before .before .before .loop-test .taken)
-    (pair-opposition-other (now (a .company)) (now (a .opposition)) (a .l1) (a .l2) (l .j) (search needs) (search needs)))
+    sym (all-fails (a .count) (l .k) (at (now (a .company)) (now (a .opposition)) (a .l1) (a .l2) (a .from)) (c .before .before .before .before .loop-test .taken)
+    (pair-opposition-other (now (a .company)) (now (a .opposition)) (a .l1) (a .l2) (l .k + a .from) (search needs) (search needs)))
 
 loop-again : tie.Need-loop-again Inv-loop μ-loop
 loop-again c =
     let a = c .before .before .before .before .before .before .args in
     let l = c .before .before .before .before .before .loop in (
       search needs,
-      all-more (l .j) (pairEven (now (a .company)) (now (a .opposition)) (a .l1) (a .l2)) (l .inv .1)
-          (pair-even (now (a .company)) (now (a .opposition)) (a .l1) (a .l2) (l .j) (search needs) (search needs)),
+      all-more (l .k) (at (now (a .company)) (now (a .opposition)) (a .l1) (a .l2) (a .from)) (l .inv .1)
+          (pair-even (now (a .company)) (now (a .opposition)) (a .l1) (a .l2) (l .k + a .from) (search needs) (search needs)),
     )
 
 returns-3 : tie.Need-returns-3 Inv-loop μ-loop
 returns-3 c =
     let a = c .before .before .args in
     let l = c .before .loop in
-    let e : a .i ≡ l .j = omega arith in
-    sym (ap (λ (k : ℕ). rowEven (now (a .company)) (now (a .opposition)) (a .l1) (a .l2) k) e ∙ l .inv .1)
+    let e : a .count ≡ l .k = omega arith in
+    sym (ap (rowEven (now (a .company)) (now (a .opposition)) (a .l1) (a .l2) (a .from)) e ∙ l .inv .1)
 
 pub row-even-spec : {M : Type 1} → statement M
 row-even-spec =
@@ -58,6 +62,7 @@ row-even-spec =
     Inv-loop
     μ-loop
     loop-holds
+    (λ c. search needs)
     (λ c. search needs)
     (λ c. search needs)
     returns

@@ -38,7 +38,7 @@ count listing < FILE                    the listing of a job file
 count make FOLDER                       write the stored examples and trials below FOLDER
 count verify FOLDER                     fail where a stored file is not what make makes
 count compare PROGRAM.. -- SEED COUNT   run a program on COUNT seeded jobs and compare
-count verbs PROGRAM.. -- SEED COUNT     run the program's verbs on COUNT seeded files and compare
+count verbs PROGRAM.. -- SEED COUNT     run each of the program's verbs on COUNT seeded files and compare
 count job SEED INDEX > FILE             the bytes of one of these jobs
 count lists                             the table of printed lists
 count selftest                          the figures of the request";
@@ -82,8 +82,8 @@ fn done(words: &[&str], arguments: &[String]) -> Result<(), Stop> {
         }
         ["verbs", program @ .., "--", seed, count] if !program.is_empty() => {
             let (seed, count) = (number(seed)?, number(count)?);
-            let failed = verbs::compare(&arguments[1..1 + program.len()], seed, count);
-            println!("{} passed, {failed} failed", count - failed);
+            let (passed, failed) = verbs::compare(&arguments[1..1 + program.len()], seed, count);
+            println!("{passed} passed, {failed} failed");
             if failed > 0 {
                 return Err(Stop::Found(String::new()));
             }

@@ -1,10 +1,13 @@
 //! The program's verbs on many files, against the count: what it prints, and how what it says on standard error begins.
 //!
 //! `check JOB SHEET`: jobs of both editions, some refused, with sheets as text: a listing's own lines, in other order and among others, and wrong in one place.
+//! `practice JOB START WIDTH VALUE..`: jobs of both editions, some refused, with numbers in their ranges, out of them, written in more digits than they need, and words that are none.
 
 use crate::damage;
-use crate::job::{self, Job};
+use crate::job::{self, Job, Refusal};
 use crate::listing;
+use crate::parts;
+use crate::practice;
 use crate::second;
 use crate::seed::Seed;
 use crate::solve::{solve, Results};
@@ -25,35 +28,54 @@ fn printed(text: String) -> Expected {
     Expected { printed: text.into_bytes(), begins, holds: String::new() }
 }
 
-/// The number of trials on which the program fails.
-pub fn compare(program: &[String], seed: u64, count: u64) -> u64 {
-    let room = std::env::temp_dir().join(format!("count-verbs-{}", std::process::id()));
-    fs::create_dir_all(&room).expect("room for files");
-    let (mut failed, mut alike) = (0, BTreeMap::new());
-    for index in 0..count {
-        let mut source = Seed::new(seed, index);
-        let (about, files, expected) = check(seed, index, &mut source);
-        match run(program, &room, "check", &files, &expected) {
-            Ok(()) => *alike.entry(about).or_insert(0) += 1,
-            Err(failure) => {
-                failed += 1;
-                println!("check {seed} {index} ({about}): {failure}");
-            }
-        }
-    }
-    fs::remove_dir_all(&room).expect("the files are taken away");
-    println!("check: {alike:?}");
-    failed
+fn cannot(word: String) -> Expected {
+    Expected { printed: vec![], begins: "bench:", holds: word }
 }
 
-fn run(program: &[String], room: &PathBuf, verb: &str, files: &[Vec<u8>], expected: &Expected) -> Result<(), String> {
+/// What a verb is tried on: files, the words after them, and what comes of it. And a few words on what they are.
+struct Trial {
+    about: &'static str,
+    files: Vec<Vec<u8>>,
+    words: Vec<String>,
+    expected: Expected,
+}
+
+const VERBS: [(&str, fn(u64, u64, &mut Seed) -> Trial); 2] = [("check", check), ("practice", practise)];
+
+/// On how many trials the program is right, and on how many it fails, of so many for each verb.
+pub fn compare(program: &[String], seed: u64, count: u64) -> (u64, u64) {
+    let room = std::env::temp_dir().join(format!("count-verbs-{}", std::process::id()));
+    fs::create_dir_all(&room).expect("room for files");
+    let (mut passed, mut failed) = (0, 0);
+    for (verb, trial) in VERBS {
+        let mut alike: BTreeMap<&str, u64> = BTreeMap::new();
+        for index in 0..count {
+            let trial = trial(seed, index, &mut Seed::new(seed, index));
+            match run(program, &room, verb, &trial) {
+                Ok(()) => *alike.entry(trial.about).or_insert(0) += 1,
+                Err(failure) => {
+                    failed += 1;
+                    println!("{verb} {seed} {index} ({}): {failure}", trial.about);
+                }
+            }
+        }
+        passed += alike.values().sum::<u64>();
+        println!("{verb}: {alike:?}");
+    }
+    fs::remove_dir_all(&room).expect("the files are taken away");
+    (passed, failed)
+}
+
+fn run(program: &[String], room: &PathBuf, verb: &str, trial: &Trial) -> Result<(), String> {
+    let expected = &trial.expected;
     let mut command = Command::new(&program[0]);
     command.args(&program[1..]).arg(verb).stdin(Stdio::null());
-    for (number, bytes) in files.iter().enumerate() {
+    for (number, bytes) in trial.files.iter().enumerate() {
         let path = room.join(format!("file-{number}"));
         fs::write(&path, bytes).map_err(|error| error.to_string())?;
         command.arg(path);
     }
+    command.args(&trial.words);
     let output = command.output().map_err(|error| format!("{} does not start: {error}", program[0]))?;
     let said = String::from_utf8_lossy(&output.stderr);
     if output.stdout != expected.printed {
@@ -96,26 +118,70 @@ impl Lines {
     }
 }
 
-type Trial = (&'static str, Vec<Vec<u8>>, Expected);
-
-/// A job and its sheet.
-fn check(seed: u64, index: u64, source: &mut Seed) -> Trial {
+/// A job's file in either edition, whole or damaged, and its job where it has one.
+fn job_file(seed: u64, index: u64, source: &mut Seed) -> (Vec<u8>, Result<Job, Refusal>) {
     let bytes = if index % 6 == 5 { damage::seeded(seed, index).bytes } else { whole(source) };
     let edition = source.once_in(3);
     let file = if edition { second::with_names(&bytes, &[]) } else { bytes };
     let seen = if edition { &file[..file.len().min(second::LIMIT + 1)] } else { &file[..file.len().min(listing::READ_LIMIT)] };
     let read = if file.first() == Some(&second::EDITION[0]) { second::read(seen).map(|read| read.job) } else { job::read(seen) };
-    let job = match read {
-        Ok(job) => job,
+    (file, read)
+}
+
+/// A job and its sheet.
+fn check(seed: u64, index: u64, source: &mut Seed) -> Trial {
+    let (file, read) = job_file(seed, index, source);
+    let (about, text, expected) = match read {
+        Ok(job) => sheet(&job, &solve(&job), source),
         Err(refusal) => {
             let a = job::read(&crate::stored::A).expect("example A");
             let sheet = Lines::of(&a, &solve(&a)).text(source.once_in(2));
-            return ("a job that is refused", vec![file, sheet.into_bytes()], printed(listing::refused(refusal)));
+            ("a job that is refused", sheet, printed(listing::refused(refusal)))
         }
     };
-    let results = solve(&job);
-    let (about, text, expected) = sheet(&job, &results, source);
-    (about, vec![file, text.into_bytes()], expected)
+    Trial { about, files: vec![file, text.into_bytes()], words: vec![], expected }
+}
+
+/// A job, a start number, a width and true values; the words are the numbers, mostly in the ranges.
+fn practise(seed: u64, index: u64, source: &mut Seed) -> Trial {
+    let (file, read) = job_file(seed, index, source);
+    let v = read.as_ref().map_or(5, |job| job.head.objects());
+    let mut asked = practice::seeded(v, source);
+    if !source.once_in(3) {
+        asked.truths.resize(v, 7);
+    }
+    let mut words = vec![asked.start.to_string(), asked.width.to_string()];
+    words.extend(asked.truths.iter().map(|truth| truth.to_string()));
+    // one of the words in more digits than it needs
+    let place = source.below(words.len());
+    if source.once_in(4) {
+        let minus = words[place].starts_with('-');
+        words[place] = format!("{}000{}", if minus { "-" } else { "" }, words[place].trim_start_matches('-'));
+    }
+    // one of the words out of every range, or no number
+    let far = source.once_in(6);
+    if far {
+        let past = ["-18446744073709551616", "-1", "4294967296", "9223372036854775808", "18446744073709551616", "99999999999999999999999999999999"];
+        words[place] = past[if place < 2 { source.below(past.len()) } else { source.pick(&[0, 2, 3, 4, 5]) }].to_string();
+    }
+    if source.once_in(8) {
+        let wrong = source.pick(&["x", "1.5", "+1", "--1", "-", "0x1", "1e3", " 1", "1 ", "\u{2212}1", ""]).to_string();
+        words[place] = wrong.clone();
+        return Trial { about: "what is no number", files: vec![file], words, expected: cannot(format!("{wrong}: this is not a number\n")) };
+    }
+    let refused = |number| printed(format!("refused {number} 0\n"));
+    let (about, expected) = match read {
+        Err(refusal) => ("a job that is refused", printed(listing::refused(refusal))),
+        Ok(_) if asked.truths.len() != v => ("too few or too many true values", refused(3)),
+        Ok(_) if far => ("a number out of every range", refused(16)),
+        Ok(_) if !asked.in_range() => ("a true value or a width out of its range", refused(16)),
+        Ok(job) => {
+            let first = if file[0] == second::EDITION[0] { &file[second::EDITION.len()..] } else { &file };
+            let design = parts::parts_of(first).expect("the parts of a job");
+            ("a practice job", Expected { printed: asked.file(design, &job.blocks), begins: "", holds: String::new() })
+        }
+    };
+    Trial { about, files: vec![file], words, expected }
 }
 
 /// The file of a job that nothing refuses.
@@ -135,7 +201,7 @@ fn sheet(job: &Job, results: &Results, source: &mut Seed) -> (&'static str, Stri
     let object = source.below(v);
     let agrees = || printed("agrees\n".to_string());
     let short = || printed("refused 15 0\n".to_string());
-    let unread = |line: usize| Expected { printed: vec![], begins: "bench:", holds: format!("line {line}\n") };
+    let unread = |line: usize| cannot(format!("line {line}\n"));
     let differs = |object: usize, claimed: i128| printed(format!("differs {object} claimed {claimed} is {}\n", results.hundredths[object]));
     let spread = |words: &[String]| words[3..].join(" ");
     let of_spread = |claimed: &[String]| printed(format!("differs spread claimed {} is {}\n", spread(claimed), spread(&lines_of(job, results))));

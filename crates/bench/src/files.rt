@@ -59,3 +59,11 @@ pub(crate) fn looked_at(file: &[u8], n: usize) -> usize {
     }
     if n < 8192 { n } else { 8192 }
 }
+
+// Where the four fields of a job start: of the second edition behind the edition field.
+pub(crate) fn fields_start(file: &[u8]) -> usize {
+    if is_second(file) {
+        return 4;
+    }
+    0
+}

@@ -3,6 +3,8 @@
 // verb.
 mod check;
 mod files;
+mod numbers;
+mod practising;
 mod said;
 
 use libc::STDERR_FILENO;
@@ -52,7 +54,11 @@ fn run_verb(count: usize) {
         check::check(count);
         return;
     }
+    if sheets::same(&name[..length], b"practice") {
+        practising::practise(count);
+        return;
+    }
     io::write_all(STDERR_FILENO, b"bench: there is no verb ");
     io::write_all(STDERR_FILENO, &name[..length]);
-    io::write_all(STDERR_FILENO, b"; the one there is: check JOB SHEET\n");
+    io::write_all(STDERR_FILENO, b"; there are check and practice\n");
 }

@@ -10,6 +10,12 @@ use denote.Triple.Clauses.{AtExit}
 use Rattle.sheets.proofs.claimed.claimed_spread as claimed-spread
 use Rattle.sheets.proofs.claimed.claimed_spread.Kinds as claimed-spread-kinds
 use Rattle.sheets.proofs.claimed.claimed_spread.Reads as claimed-spread-reads
+use Rattle.sheets.proofs.numerals.signed as signed
+use Rattle.sheets.proofs.numerals.signed.Kinds as signed-kinds
+use Rattle.sheets.proofs.numerals.signed.Reads as signed-reads
+use Rattle.sheets.proofs.numerals.is_decimal as is-decimal
+use Rattle.sheets.proofs.numerals.is_decimal.Kinds as is-decimal-kinds
+use Rattle.sheets.proofs.numerals.is_decimal.Reads as is-decimal-reads
 use Rattle.sheets.proofs.pieces.same as same
 use Rattle.sheets.proofs.pieces.same.Kinds as same-kinds
 use Rattle.sheets.proofs.pieces.same.Reads as same-reads
@@ -23,6 +29,20 @@ module _ (κs : Lfts 0) (a : ArgsD claimed-spread.signature κs) (r q : ResD cla
   pub claimed-spread-determined : claimed-spread-reads.Post κs a r s → claimed-spread-reads.Post κs a q t →
       r ≡ q
   claimed-spread-determined p e = p ∙ sym e
+
+-- `signed`: the answer
+module _ (κs : Lfts 1) (a : ArgsD signed.signature κs) (r q : ResD signed.signature κs)
+    (s t : AtExit (endedOf 1 signed-kinds.ps signed-kinds.r) κs) where
+  pub signed-determined : signed-reads.Post κs a r s → signed-reads.Post κs a q t →
+      r ≡ q
+  signed-determined p e = p ∙ sym e
+
+-- `is_decimal`: the answer
+module _ (κs : Lfts 1) (a : ArgsD is-decimal.signature κs) (r q : ResD is-decimal.signature κs)
+    (s t : AtExit (endedOf 1 is-decimal-kinds.ps is-decimal-kinds.r) κs) where
+  pub is-decimal-determined : is-decimal-reads.Post κs a r s → is-decimal-reads.Post κs a q t →
+      r ≡ q
+  is-decimal-determined p e = p ∙ sym e
 
 -- `same`: the answer
 module _ (κs : Lfts 2) (a : ArgsD same.signature κs) (r q : ResD same.signature κs)

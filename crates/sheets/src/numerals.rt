@@ -7,6 +7,7 @@ ghost use lib.ListN.{getD};
 ghost use lib.IntN.{pos, negℤ};
 ghost use lib.Dec.{eqb};
 ghost use Rattle.meaning.specs.SheetText.{numberOf, noNumber, signedOf};
+ghost use Rattle.sheets.specs.Arguments.{inDigits, inDecimal};
 
 // A number of at most so much.
 pub(crate) fn number(word: &[u8], limit: u64) -> Numeral
@@ -72,7 +73,7 @@ fn opposite(n: u64) -> i64
 }
 
 // A number of 64 bits, with a minus before it where it is below 0.
-pub(crate) fn signed(word: &[u8]) -> SignedNumeral
+pub fn signed(word: &[u8]) -> SignedNumeral
     ensures { λ r. ⌜ r ≡ signedOf (now (word .entry)) ⌝ }
 {
     if begins_with_minus(word) {
@@ -87,4 +88,32 @@ pub(crate) fn signed(word: &[u8]) -> SignedNumeral
         read: above.read,
         number: above.number as i64,
     }
+}
+
+// Whether a word is a number, however large, with a minus before it where it is below 0.
+pub fn is_decimal(word: &[u8]) -> bool
+    ensures { λ r. ⌜ r ≡ inDecimal (now (word .entry)) ⌝ }
+{
+    if begins_with_minus(word) {
+        return is_digits(&word[1..]);
+    }
+    is_digits(word)
+}
+
+// Whether a word is decimal digits, one at least.
+fn is_digits(word: &[u8]) -> bool
+    ensures { λ r. ⌜ r ≡ inDigits (now (word .entry)) ⌝ }
+{
+    let mut i: usize = 0;
+    while i < word.len() {
+        let found = word[i];
+        if found < 48 {
+            return false;
+        }
+        if 57 < found {
+            return false;
+        }
+        i += 1;
+    }
+    i != 0
 }

@@ -18,10 +18,15 @@ use lib.Seq.{drop-cons, drop-length, take-all}
 use Rattle.records.specs.declared.Numeral.{Numeral}
 use Rattle.records.specs.declared.SignedNumeral.{SignedNumeral}
 use Rattle.meaning.specs.SheetText.{digital, decimal, isNumber, numberOf, noNumber, signedOf}
+use Rattle.sheets.specs.Arguments.{inDigits, inDecimal}
 
 and-false : (a : Bool) → (a && false) ≡ false
 and-false true = refl
 and-false false = refl
+
+and-true : (a : Bool) → (a && true) ≡ a
+and-true true = refl
+and-true false = refl
 
 module _ (w : List ℕ) (i : ℕ) (more : i < length w) where
   -- what stands here is no digit
@@ -140,3 +145,23 @@ module _ (w : List ℕ) (n : Numeral) where
   signed-plain t e =
       let small : n .number ≤ 9223372036854775807 = rw e (within 9223372036854775807 w) in
       rw (toZ-pos w64 (n .number) (omega arith), t, ← e)
+
+-- ---- digits, however many
+
+module _ (w : List ℕ) where
+  pub not-in-digits : digital w ≡ false → false ≡ inDigits w
+  unfolding inDigits
+  not-in-digits e = rw (e, and-false)
+
+  -- all of them are digits, and there is one where the end is not the start
+  pub in-digits : (i : ℕ) → i ≡ length w → digital w ≡ true → not (eqb i 0) ≡ inDigits w
+  unfolding inDigits
+  in-digits i end e = rw (e, end) (sym (and-true (not (eqb (length w) 0))))
+
+  pub decimal-minus : eqb (getD w 0 0) 45 ≡ true → (r : Bool) → r ≡ inDigits (drop 1 w) → r ≡ inDecimal w
+  unfolding inDecimal
+  decimal-minus t r e = rw (t, e)
+
+  pub decimal-plain : eqb (getD w 0 0) 45 ≡ false → (r : Bool) → r ≡ inDigits w → r ≡ inDecimal w
+  unfolding inDecimal
+  decimal-plain t r e = rw (t, e)

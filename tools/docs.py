@@ -9,7 +9,7 @@ import sys
 
 PAGES = ["README.md", "tests/count/README.md"] + [f"docs/{p}.md" for p in ("READING", "PROMISES", "DECISIONS", "TRACE", "CHECKING", "SPEED", "WORKING")]
 PLACES = ("crates", "hosts", "tests", "tools", "examples", ".ci")
-FOREIGN = {"xxd"}
+FOREIGN = {"xxd", "cargo", "pkg-config"}
 SOURCES = {".rt", ".antt", ".rs", ".py", ".h", ".c", ".toml", ".txt", ".edit", ""}
 
 

@@ -32,3 +32,6 @@ pub mod Putting
 pub mod Groups
 pub mod Grouping
 pub mod Pooled
+pub mod CardsWords
+pub mod CardsNumbers
+pub mod CardsNames

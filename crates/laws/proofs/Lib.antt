@@ -35,3 +35,7 @@ pub mod Pooled
 pub mod CardsWords
 pub mod CardsNumbers
 pub mod CardsNames
+pub mod CardsSteps
+pub mod CardsHead
+pub mod CardsBlocks
+pub mod CardsRestraint

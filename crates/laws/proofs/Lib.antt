@@ -39,3 +39,5 @@ pub mod CardsSteps
 pub mod CardsHead
 pub mod CardsBlocks
 pub mod CardsRestraint
+pub mod CardsLengths
+pub mod CardsFirst

@@ -139,7 +139,7 @@ abbrev fourth : Head → List ℤ → List ℕ
 fourth h y = fieldBytes h 4 (readingsBody y)
 
 -- the restraint has 16 bytes
-restraint-long : (w : ℕ) (M : ℤ) → length (restraintBody w M) ≡ 16
+pub restraint-long : (w : ℕ) (M : ℤ) → length (restraintBody w M) ≡ 16
 restraint-long w M = rw length-append (omega (arith, bytes-long 8 w, bytes-long 8 (wrapped 64 M)))
 
 -- where the third and the fourth start, and the byte after the fourth, by the head
@@ -292,7 +292,7 @@ module _ (h : Head) (d : List ℕ) (y : List ℤ) (w : ℕ) (M : ℤ) (e : jobVe
       (bytes-more (h .flag) (h .p ∷ h .m ∷ []) (omega arith) (bytes-more (h .p) (h .m ∷ []) (omega arith) (bytes-more (h .m) [] (omega arith) bytes-none)))
 
   -- the objects of its blocks are bytes
-  objects-bytes : Bytes d
+  pub objects-bytes : Bytes d
   objects-bytes i l = by (eqb (getD d i 0) 255) refl (in-range h d (sound-job .measures .design) i l)
     where
       by : (b : Bool) → eqb (getD d i 0) 255 ≡ b → cond b (withFixed h) (ltb (getD d i 0) (h .n)) ≡ true → getD d i 0 < 256

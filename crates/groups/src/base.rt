@@ -1,6 +1,6 @@
 // The grouped set of a design: every object replaced by its g members, which are numbered gi to gi + g - 1 for object i. The words of the design are
 // developed into the lent room, and each is then replaced by the word of its members.
-use balance::judge;
+use balance::judge_by_differences;
 use design::develop;
 use design::objects;
 use design::sized;
@@ -32,7 +32,7 @@ pub fn group_base(head: Head, blocks: &[u8], g: usize, words: &mut [u64]) -> Gro
     if is_refused(fits) {
         return no_set(fits);
     }
-    let judged = judge(head, blocks);
+    let judged = judge_by_differences(head, blocks);
     let verdict = judged.verdict;
     let base = judged.parameters;
     if is_refused(verdict) {

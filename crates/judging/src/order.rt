@@ -1,6 +1,6 @@
 // The tests of a whole job, in the request's order: 4, 3, 5, 6, 7, 11, 8. The design is judged once, and its judgement handed on.
 use crate::restraint::restraint_refusal;
-use balance::judge;
+use balance::judge_by_differences;
 use records::Head;
 use records::Judged;
 use records::Verdict;
@@ -29,7 +29,7 @@ pub fn judged_job(head: Head, blocks: &[u8], readings: &[i32], set: u64, sum: i6
     if is_refused(sliced) {
         return no_judgement(sliced);
     }
-    let judged = judge(head, blocks);
+    let judged = judge_by_differences(head, blocks);
     let balanced = judged.verdict;
     let restrained = restraint_refusal(head, set, sum);
     let reached = reach_refusal(readings);

@@ -1,5 +1,5 @@
 // Whether there can be practice: the design, balanced, with a true value for each object, all in their range, and the width in its.
-use balance::judge;
+use balance::judge_by_differences;
 use design::objects;
 use design::sized;
 use records::Head;
@@ -30,7 +30,7 @@ pub(crate) fn practice_refusal(head: Head, blocks: &[u8], truths: &[i32], width:
     if truths.len() != objects(head) {
         return Verdict::Refused(3, 0);
     }
-    let judged = judge(head, blocks);
+    let judged = judge_by_differences(head, blocks);
     let balanced = judged.verdict;
     if is_refused(balanced) {
         return balanced;

@@ -31,14 +31,14 @@ module _ (c : tie.Else2) where
   abbrev else1 : tie.Else1
   else1 = c .before .before .before .before
 
-  told : c .before .before .before .judge .result .verdict ≡ judgeVerdict (start else1 .args .head) (now (start else1 .args .blocks))
-  told = ap (λ (j : Judged). j .verdict) (c .before .before .before .judge .ensures)
+  told : c .before .before .before .judge-by-differences .result .verdict ≡ judgeVerdict (start else1 .args .head) (now (start else1 .args .blocks))
+  told = ap (λ (j : Judged). j .verdict) (c .before .before .before .judge-by-differences .ensures)
 
   judged-yes : judgeVerdict (start else1 .args .head) (now (start else1 .args .blocks)) ≡ accepted
   judged-yes = sym told ∙ accepting _ (sym (c .before .is-refused2 .ensures) ∙ c .if2 .left)
 
-  base : c .before .before .before .judge .result .parameters ≡ parametersOf (start else1 .args .head) (now (start else1 .args .blocks))
-  base = ap (λ (j : Judged). j .parameters) (c .before .before .before .judge .ensures) ∙ given-yes _ _ _ judged-yes
+  base : c .before .before .before .judge-by-differences .result .parameters ≡ parametersOf (start else1 .args .head) (now (start else1 .args .blocks))
+  base = ap (λ (j : Judged). j .parameters) (c .before .before .before .judge-by-differences .ensures) ∙ given-yes _ _ _ judged-yes
 
 returns : tie.Need-returns
 returns c =
@@ -52,7 +52,7 @@ returns-2 c =
     let o = c .before .before .before .before .before in
     let a = start o .args in
     let r = sym (c .before .before .is-refused2 .ensures) ∙ c .before .if2 .taken in
-    let j = ap (λ (j : Judged). j .verdict) (c .before .before .before .before .judge .ensures) in
+    let j = ap (λ (j : Judged). j .verdict) (c .before .before .before .before .judge-by-differences .ensures) in
     let e = base-refused (a .head) (now (a .blocks)) (a .g) (length (now (a .words))) _ r (fitting o) j in
     (c .no-set2 .ensures ∙ set-refused _ _ _ _ _ r e, words-kept _ _ _ _ _ r e)
 

@@ -23,8 +23,8 @@ module _ (c : tie.After-first2) where
   abbrev start : tie.Start
   start = c .before .before .before .before .before .before .before .before .before
 
-  balanced : c .before .before .before .before .judge .result .verdict ≡ judgeVerdict (start .args .head) (now (start .args .blocks))
-  balanced = ap (λ (r : Judged). r .verdict) (c .before .before .before .before .judge .ensures)
+  balanced : c .before .before .before .before .judge-by-differences .result .verdict ≡ judgeVerdict (start .args .head) (now (start .args .blocks))
+  balanced = ap (λ (r : Judged). r .verdict) (c .before .before .before .before .judge-by-differences .ensures)
 
   restrained : c .before .before .before .restraint-refusal .result ≡ restraint (start .args .head) (start .args .set) (start .args .sum)
   restrained = rw (toZ-ofZ (start .fits .sum)) at
@@ -54,7 +54,7 @@ returns-3 : tie.Need-returns-3
 returns-3 c =
     let e = sym (told (c .before .before)) ∙ accepting _ (sym (c .before .is-refused2 .ensures) ∙ c .if2 .left) in
     let j = opened _ _ (opened _ _ (sym (job-tests _ _ _ _ _ (measured (c .before .before .before .before .before .before .before))) ∙ e) .0) .0 in
-    c .before .before .before .before .before .before .judge .ensures ∙ judgement-is _ _ _ _ _ e j
+    c .before .before .before .before .before .before .judge-by-differences .ensures ∙ judgement-is _ _ _ _ _ e j
 
 pub judged-job-spec : {M : Type 1} → statement M
 judged-job-spec =

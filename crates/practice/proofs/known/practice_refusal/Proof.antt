@@ -50,9 +50,9 @@ module _ (c : tie.Else3) where
   judged = practised-judged _ _ _ _ (passed (c .before .before .before)) (c .before .before .if2 .left) (c .if3 .left ∙ counted (c .before))
 
 -- what the judgement says
-module _ (c : tie.After-judge) where
-  told : c .judge .result .verdict ≡ judgeVerdict (start (c .before) .args .head) (now (start (c .before) .args .blocks))
-  told = ap (λ (r : Judged). r .verdict) (c .judge .ensures)
+module _ (c : tie.After-judge-by-differences) where
+  told : c .judge-by-differences .result .verdict ≡ judgeVerdict (start (c .before) .args .head) (now (start (c .before) .args .blocks))
+  told = ap (λ (r : Judged). r .verdict) (c .judge-by-differences .ensures)
 
 -- past it
 module _ (c : tie.Else4) where

@@ -204,6 +204,27 @@ module _ where
           ap₂ (λ (y : ℕ) (r : List ℕ). y ∷ r) (sym space) (ap (λ (r : List ℕ). nameOf (length s) (escaped r)) (sym none) ∙ ih)
       by false e ih = byte-read x (b 0 (omega arith)) (length s) (escaped (trimmed s)) ∙ ap (λ (r : List ℕ). x ∷ r) ih
 
+-- at most four bytes for each of a name
+escaped-most : (s : List ℕ) → length (escaped s) ≤ 4 * length s
+unfolding escaped
+escaped-most [] = omega arith
+escaped-most (x ∷ s) = rw length-append (omega (arith, four x, escaped-most s))
+  where
+    four : (x : ℕ) → length (escapedByte x) ≤ 4
+    four x = by (itself x)
+      where
+        by : (b : Bool) → length (cond b (x ∷ []) (92 ∷ 120 ∷ hexText x)) ≤ 4
+        by true = omega arith
+        by false = omega arith
+
+pub name-most : (s : List ℕ) → length (nameText s) ≤ 4 * length s + 4
+unfolding nameText
+name-most s = by (eqb (length (trimmed s)) 0)
+  where
+    by : (t : Bool) → length (cond t (escaped (32 ∷ [])) (escaped (trimmed s))) ≤ 4 * length s + 4
+    by true = omega (arith, escaped-most (32 ∷ []))
+    by false = omega (arith, escaped-most (trimmed s), trimmed-most s)
+
 -- a name that fills its bytes
 module _ (x : ℕ) (s : List ℕ) (b : Bytes (x ∷ s)) where
   abbrev name : List ℕ
@@ -270,6 +291,12 @@ texts-read : (s : List ℕ) → Bytes s → hexBytes (length s) (hexTexts s) ≡
 unfolding hexTexts hexBytes
 texts-read [] b = refl
 texts-read (x ∷ s) b = ap₂ (λ (y : ℕ) (r : List ℕ). y ∷ r) (text-worth x (b 0 (omega arith))) (texts-read s (later x s b))
+
+-- two digits a byte, one for no bytes
+pub body-most : (s : List ℕ) → length (bodyText s) ≤ 2 * length s + 1
+unfolding ascii
+body-most [] = omega arith
+body-most (x ∷ s) = omega (arith, texts-long (x ∷ s))
 
 pub body-long : (s : List ℕ) → 0 < length (bodyText s)
 unfolding ascii hexTexts

@@ -41,3 +41,5 @@ pub mod CardsBlocks
 pub mod CardsRestraint
 pub mod CardsLengths
 pub mod CardsFirst
+pub mod CardsOptional
+pub mod CardsSecond

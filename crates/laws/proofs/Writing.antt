@@ -105,7 +105,7 @@ start-again s b at tag len f =
     ∙ sym (ap (take 3) (drop-cons s at 0 (omega (arith, f .inside))))
 
 -- and so is the whole field
-field-again : (s : List ℕ) → Bytes s → (at tag len : ℕ) → Fielded s at tag len → tag ∷ bytesOf 2 len ++ take len (drop (at + 3) s) ≡ take (3 + len) (drop at s)
+pub field-again : (s : List ℕ) → Bytes s → (at tag len : ℕ) → Fielded s at tag len → tag ∷ bytesOf 2 len ++ take len (drop (at + 3) s) ≡ take (3 + len) (drop at s)
 field-again s b at tag len f = ap₂ (λ (a c : List ℕ). a ++ c) (start-again s b at tag len f) (ap (take len) (sym (drop-drop 3 at s)))
     ∙ sym (take-add 3 len (drop at s))
 

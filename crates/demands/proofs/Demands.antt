@@ -1,6 +1,6 @@
 -- What the customer signs: the three demands, each for every byte string and for every direct call, and the requests on writing jobs, on fields, on the
--- second edition, on uncertainty, on sums of days, on grouped sets, on sheets of other laboratories, on practice readings and on the pooled spread. Each is a
--- record of specs/, with a field for each clause of the customer's sentence; here stand the proofs, by the laws of the definitions.
+-- second edition, on uncertainty, on sums of days, on grouped sets, on sheets of other laboratories, on practice readings, on the pooled spread and on cards.
+-- Each is a record of specs/, with a field for each clause of the customer's sentence; here stand the proofs, by the laws of the definitions.
 --     demand-1, demand-1-calls       specs/Demand1, specs/Calls      refused by number, place and order, and nothing lent is changed
 --     demand-2, demand-2-calls       specs/Demand2, specs/Answers    accepted exactly if balanced, and the paper's fractions
 --     demand-3, demand-3-calls       specs/Demand3                   the exact values are best, and the published ones near
@@ -16,6 +16,8 @@
 --     the-generator, practice-readings    specs/Practice             readings from true values, and what they give back (02, P11)
 --     pooled-spread, one-job-pooled, no-freedom-adds-nothing    specs/Pooled    one spread of up to 64 jobs, in any order (02, P13)
 --     pooled-cut, pooled-refused, pooled-odd                    specs/Pooled    its refusals, with the index of a job (02, P13)
+--     words-of-cards, comments-and-spacing                      specs/Cards     comments and spacing change nothing
+--     cards-of-files, cards-of-second-files                     specs/Cards     the card that is printed for a file reads as that file
 -- Assumes nothing.
 use mathlib.Core.List.{List}
 use mathlib.Core.Path.{refl, ap}
@@ -47,6 +49,7 @@ use Rattle.demands.specs.Sheet.{SheetOfParts, SheetOfFile, SheetOfSecond
 use Rattle.demands.specs.Days.{SumsOfDays, SumsOfFiles, SumsOfDeviations, SumsOfDeviationsIn}
 use Rattle.demands.specs.Practice.{Generator, Practice, PracticeReadings}
 use Rattle.demands.specs.Pooled.{PooledSpread, OneJobPooled, NothingAdded, PooledCut, PooledRefused, PooledOdd}
+use Rattle.demands.specs.Cards.{WordsOfCards, CommentsAndSpacing, CardsOfFiles, CardsOfSecondFiles}
 use Rattle.demands.proofs.Order.{file-order, rooms-last, reading-ends, solving-ends, keeps-position, fields-led}
 use Rattle.demands.proofs.Calls.{refusing}
 use Rattle.demands.proofs.Balance.{file-exactly, file-unbalanced, file-well-formed}
@@ -64,6 +67,7 @@ use Rattle.demands.proofs.Groups.{any-blocks, from-base}
 use Rattle.demands.proofs.Days.{days-added, files-added, deviations-added}
 use Rattle.demands.proofs.Sheet.{sheet-of-parts, sheet-of-file, sheet-of-second}
 use Rattle.demands.proofs.Practice.{generator, practice-read}
+use Rattle.demands.proofs.Cards.{card-words, card-spacing, card-of-file, card-of-second}
 use Rattle.demands.proofs.Pooled as pooling
 
 pub demand-1 : (s : List ℕ) → Demand1 s
@@ -202,3 +206,15 @@ blocks-in-groups = any-blocks
 
 pub grouped-sets : (h : Head) (d : List ℕ) (g : ℕ) → FromBase h d g
 grouped-sets = from-base
+
+pub words-of-cards : (s : List ℕ) → WordsOfCards s
+words-of-cards = card-words
+
+pub comments-and-spacing : (s t : List ℕ) → CommentsAndSpacing s t
+comments-and-spacing = card-spacing
+
+pub cards-of-files : (s : List ℕ) → CardsOfFiles s
+cards-of-files = card-of-file
+
+pub cards-of-second-files : (s : List ℕ) → CardsOfSecondFiles s
+cards-of-second-files = card-of-second

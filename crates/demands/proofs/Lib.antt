@@ -19,5 +19,6 @@ pub mod Practice
 pub mod NoFreedom
 pub mod Pooled
 pub mod Groups
+pub mod Cards
 pub mod Demands
 pub mod Rows

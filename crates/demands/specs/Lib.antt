@@ -20,3 +20,4 @@ pub mod Sheet
 pub mod Practice
 pub mod Pooled
 pub mod Groups
+pub mod Cards

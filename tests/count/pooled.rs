@@ -123,6 +123,17 @@ pub fn seeded(seed: &mut Seed) -> Pool {
     pool
 }
 
+/// Files to pool, whole or harmed, one by one.
+pub fn files(seed: &mut Seed) -> Vec<Vec<u8>> {
+    let mut files = family(seed).1;
+    if seed.once_in(2) {
+        let (_, harm) = TO_FILES[seed.below(TO_FILES.len())];
+        harm(&mut files, seed);
+    }
+    seed.shuffle(&mut files);
+    files
+}
+
 /// Jobs of one v and beta, and their kind.
 fn family(seed: &mut Seed) -> (&'static str, Vec<Vec<u8>>) {
     let [below, above] = balanced::around_a_word();

@@ -2,17 +2,21 @@
 //!
 //! `check JOB SHEET`: jobs of both editions, some refused, with sheets as text: a listing's own lines, in other order and among others, and wrong in one place.
 //! `practice JOB START WIDTH VALUE..`: jobs of both editions, some refused, with numbers in their ranges, out of them, written in more digits than they need, and words that are none.
+//! `pool FILE..`: files of one v and beta, some damaged or of another kind, one to more than 64, with names of any bytes.
 
 use crate::damage;
 use crate::job::{self, Job, Refusal};
 use crate::listing;
 use crate::parts;
+use crate::pooled::{self, Pool};
 use crate::practice;
 use crate::second;
 use crate::seed::Seed;
 use crate::solve::{solve, Results};
 use std::collections::BTreeMap;
+use std::ffi::OsStr;
 use std::fs;
+use std::os::unix::ffi::OsStrExt;
 use std::path::PathBuf;
 use std::process::{Command, Stdio};
 
@@ -32,15 +36,20 @@ fn cannot(word: String) -> Expected {
     Expected { printed: vec![], begins: "bench:", holds: word }
 }
 
-/// What a verb is tried on: files, the words after them, and what comes of it. And a few words on what they are.
+/// What a verb is tried on: files, each with its name, the words after them, and what comes of it. And a few words on what they are.
 struct Trial {
     about: &'static str,
-    files: Vec<Vec<u8>>,
+    files: Vec<(Vec<u8>, Vec<u8>)>,
     words: Vec<String>,
     expected: Expected,
 }
 
-const VERBS: [(&str, fn(u64, u64, &mut Seed) -> Trial); 2] = [("check", check), ("practice", practise)];
+const VERBS: [(&str, fn(u64, u64, &mut Seed) -> Trial); 3] = [("check", check), ("practice", practise), ("pool", pool)];
+
+/// A file by a plain name.
+fn plain(name: &str, bytes: Vec<u8>) -> (Vec<u8>, Vec<u8>) {
+    (name.as_bytes().to_vec(), bytes)
+}
 
 /// On how many trials the program is right, and on how many it fails, of so many for each verb.
 pub fn compare(program: &[String], seed: u64, count: u64) -> (u64, u64) {
@@ -68,12 +77,14 @@ pub fn compare(program: &[String], seed: u64, count: u64) -> (u64, u64) {
 
 fn run(program: &[String], room: &PathBuf, verb: &str, trial: &Trial) -> Result<(), String> {
     let expected = &trial.expected;
-    let mut command = Command::new(&program[0]);
-    command.args(&program[1..]).arg(verb).stdin(Stdio::null());
-    for (number, bytes) in trial.files.iter().enumerate() {
-        let path = room.join(format!("file-{number}"));
-        fs::write(&path, bytes).map_err(|error| error.to_string())?;
-        command.arg(path);
+    // the program runs where the files are, so that a name is all that it is told
+    let started = fs::canonicalize(&program[0]).unwrap_or_else(|_| PathBuf::from(&program[0]));
+    let mut command = Command::new(started);
+    command.args(&program[1..]).arg(verb).stdin(Stdio::null()).current_dir(room);
+    for (name, bytes) in &trial.files {
+        let name = OsStr::from_bytes(name);
+        fs::write(room.join(name), bytes).map_err(|error| error.to_string())?;
+        command.arg(name);
     }
     command.args(&trial.words);
     let output = command.output().map_err(|error| format!("{} does not start: {error}", program[0]))?;
@@ -139,7 +150,7 @@ fn check(seed: u64, index: u64, source: &mut Seed) -> Trial {
             ("a job that is refused", sheet, printed(listing::refused(refusal)))
         }
     };
-    Trial { about, files: vec![file, text.into_bytes()], words: vec![], expected }
+    Trial { about, files: vec![plain("job", file), plain("sheet", text.into_bytes())], words: vec![], expected }
 }
 
 /// A job, a start number, a width and true values; the words are the numbers, mostly in the ranges.
@@ -167,7 +178,7 @@ fn practise(seed: u64, index: u64, source: &mut Seed) -> Trial {
     if source.once_in(8) {
         let wrong = source.pick(&["x", "1.5", "+1", "--1", "-", "0x1", "1e3", " 1", "1 ", "\u{2212}1", ""]).to_string();
         words[place] = wrong.clone();
-        return Trial { about: "what is no number", files: vec![file], words, expected: cannot(format!("{wrong}: this is not a number\n")) };
+        return Trial { about: "what is no number", files: vec![plain("job", file)], words, expected: cannot(format!("{wrong}: this is not a number\n")) };
     }
     let refused = |number| printed(format!("refused {number} 0\n"));
     let (about, expected) = match read {
@@ -181,7 +192,50 @@ fn practise(seed: u64, index: u64, source: &mut Seed) -> Trial {
             ("a practice job", Expected { printed: asked.file(design, &job.blocks), begins: "", holds: String::new() })
         }
     };
-    Trial { about, files: vec![file], words, expected }
+    Trial { about, files: vec![plain("job", file)], words, expected }
+}
+
+/// Files with names of any bytes that a name may have.
+fn pool(_: u64, _: u64, source: &mut Seed) -> Trial {
+    let mut files: Vec<(Vec<u8>, Vec<u8>)> = pooled::files(source).into_iter().map(|bytes| (vec![], bytes)).collect();
+    for (number, (name, bytes)) in files.iter_mut().enumerate() {
+        // the number keeps names apart, and a name from being - alone
+        *name = number.to_string().into_bytes();
+        let odd = [b' ', b'#', b'\\', b'\n', b'\r', b'\t', 0x7f, 0x80, 0xff, b'!', b'~', b'-', b'x', 1];
+        (0..source.below(4)).for_each(|_| name.push(source.pick(&odd)));
+        if source.once_in(40) {
+            *bytes = second::with_names(bytes, &[]);
+        }
+    }
+    let seen: Vec<Vec<u8>> = files.iter().map(|(_, bytes)| bytes[..bytes.len().min(listing::READ_LIMIT)].to_vec()).collect();
+    let shown: Vec<String> = files.iter().map(|(name, _)| name.iter().map(|byte| shown(*byte)).collect()).collect();
+    let last = |spread: Option<i128>| spread.map_or("none".to_string(), |k| k.to_string());
+    let (about, text) = match Pool::of("", &seen).pooled() {
+        Ok(pooled) => {
+            let mut text = String::new();
+            for (name, bytes) in shown.iter().zip(&seen) {
+                let job = job::read(bytes).expect("a job that is pooled");
+                let results = solve(&job);
+                text += &format!("job {name} {} {} {} {} {}\n", job.head.objects(), job.balance.beta(), results.q, results.freedom, last(results.spread));
+            }
+            (if pooled.spread.is_some() { "pooled" } else { "pooled, no degree of freedom" }, text + &format!("pooled {} {} {}\n", pooled.q, pooled.freedom, last(pooled.spread)))
+        }
+        Err(refusal) if refusal.number == 18 => ("too many", listing::refused(refusal)),
+        Err(refusal) => {
+            let line = format!("refused {} {} {}\n", refusal.number, refusal.place, shown[refusal.index]);
+            (if refusal.number == 17 { "of two kinds" } else { "a job that is refused" }, line)
+        }
+    };
+    Trial { about, files, words: vec![], expected: printed(text) }
+}
+
+/// A byte of a name, as a line shows it.
+fn shown(byte: u8) -> String {
+    match byte {
+        b'#' | b'\\' => format!("\\x{byte:02X}"),
+        b'!'..=b'~' => char::from(byte).to_string(),
+        _ => format!("\\x{byte:02X}"),
+    }
 }
 
 /// The file of a job that nothing refuses.

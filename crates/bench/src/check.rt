@@ -1,5 +1,7 @@
 // The verb `check JOB SHEET`: another laboratory's sheet, as text, against its job, of either edition. It prints `agrees`, or
 // `differs OBJECT claimed X is Y`, in hundredths of a count, or `differs spread claimed F K is F K`, or the refusal.
+use crate::figures::put_spread;
+use crate::figures::solve;
 use crate::files::in_front;
 use crate::files::is_second;
 use crate::files::looked_at;
@@ -16,7 +18,6 @@ use printing::put_signed;
 use printing::put_text;
 use records::Checked;
 use records::SheetSpread;
-use records::Solved;
 use records::Spread;
 use sheets::claimed_spread;
 use sheets::read_sheet;
@@ -160,25 +161,6 @@ fn say_spread(file: &[u8], spread: SheetSpread) {
     );
     let end = put_byte(&mut text, spread_end, 10);
     put_line(&text, end);
-}
-
-// Degrees of freedom, and the hundredths or none.
-fn put_spread(text: &mut [u8], at: usize, freedom: u64, none: bool, hundredths: u64) -> usize {
-    let freedom_end = put_number(text, at, freedom);
-    if none {
-        return put_text(text, freedom_end, b" none");
-    }
-    put_number(text, freedom_end, hundredths)
-}
-
-// The job worked out, of either edition.
-fn solve(file: &[u8], values: &mut [i64; 50]) -> Solved {
-    let mut words = [0u64; 2600];
-    let mut deviations = [0i64; 1300];
-    if is_second(file) {
-        return job::solve_second(file, &mut words, values, &mut deviations);
-    }
-    job::solve(file, &mut words, values, &mut deviations)
 }
 
 // The published hundredths of an object.

@@ -2,8 +2,10 @@
 // listing that cannot be written whole is said to be so on standard error: a program sets no exit status of its own. With arguments, the first names a
 // verb.
 mod check;
+mod figures;
 mod files;
 mod numbers;
+mod pooling;
 mod practising;
 mod said;
 
@@ -58,7 +60,11 @@ fn run_verb(count: usize) {
         practising::practise(count);
         return;
     }
+    if sheets::same(&name[..length], b"pool") {
+        pooling::pool(count);
+        return;
+    }
     io::write_all(STDERR_FILENO, b"bench: there is no verb ");
     io::write_all(STDERR_FILENO, &name[..length]);
-    io::write_all(STDERR_FILENO, b"; there are check and practice\n");
+    io::write_all(STDERR_FILENO, b"; there are check, practice and pool\n");
 }

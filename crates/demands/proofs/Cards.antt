@@ -5,7 +5,6 @@ use mathlib.Core.List.{List, [], _∷_, _++_, append-assoc, append-nil}
 use Prim.Native.Nat.{ℕ, zero, suc, _≤_, _<_}
 use native.Mathlib.Omega.{arith}
 use lib.Dec.{eqb, ltb}
-use lib.ListN.{length, getD}
 use borrow.Author.Tests.{lt-ltb, le-ltb, ne-eqb, ltb-true, ltb-false, eqb-true, eqb-false}
 use Rattle.records.specs.declared.Verdict.{Verdict}
 use Rattle.meaning.specs.CardText.{cardUnder, cardTextOf, cardUnder2, cardTextOf2}
@@ -26,8 +25,8 @@ use Rattle.laws.proofs.CardsWords.{
   same-number,
   same-wants,
 }
-use Rattle.laws.proofs.CardsFirst.{first-again, first-accepted}
-use Rattle.laws.proofs.CardsSecond.{second-again, second-four, second-accepted}
+use Rattle.laws.proofs.CardsFirst.{first-short, first-again, first-accepted}
+use Rattle.laws.proofs.CardsSecond.{second-again, second-four, second-accepted, second-short}
 use Rattle.demands.specs.Job.{jobIn}
 use Rattle.demands.specs.Cards.{
   wordsOf,
@@ -159,6 +158,7 @@ card-of-file s = record {
   same-bytes = λ b e. rw (first-again s b e);
   same-job = λ b e. ap jobIn (first-again s b e);
   refusal-printed = λ k place e. ap (λ (v : Verdict). cardUnder v s) e;
+  card-is-short = first-short s;
 }
 
 pub card-of-second : (s : List ℕ) → CardsOfSecondFiles s
@@ -168,4 +168,5 @@ card-of-second s = record {
   same-bytes = λ b e l. second-again s b e (omega arith);
   same-four = λ b e l. second-four s b e (omega arith);
   refusal-printed = λ k place e. ap (λ (v : Verdict). cardUnder2 v s) e;
+  card-is-short = second-short s;
 }

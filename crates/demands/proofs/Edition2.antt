@@ -1,44 +1,23 @@
 -- Files moved from one edition to the other, as the request has it. Assumes nothing.
 use mathlib.Core.Path.{_≡_, refl, sym, ap, subst, _∙_}
-use mathlib.Core.Bool.{not, _||_}
 use mathlib.Core.List.{List}
 use Prim.Native.Nat.{ℕ, zero, suc, _+_, _*_, _≤_, _<_}
 use native.Mathlib.Omega.{arith}
 use native.Mathlib.Decide.{decLe}
-use borrow.Author.Tests.{le-leb, lt-leb, leb-true, eqb-true, eq-eqb, ne-eqb}
+use borrow.Author.Tests.{le-leb, lt-leb, leb-true, eq-eqb, ne-eqb}
 use lib.Dec.{eqb, leb}
 use lib.ListN.{length, getD, take, drop, length-drop, List·getD-eq-default}
 use lib.Seq.{take-at, drop-at, length-take-le}
 use Rattle.records.specs.declared.Verdict.{Verdict}
 use Rattle.records.specs.declared.Verdict.the-variants.{Accepted, Refused}
 use Rattle.meaning.specs.Refusals.{accepted, test, _⨾_, room}
-use Rattle.meaning.specs.File.{big, headOf, fieldVerdict, fields, readVerdict}
+use Rattle.meaning.specs.File.{big, fieldVerdict, fields, readVerdict}
 use Rattle.meaning.specs.Text.{textUnder, textOf}
-use Rattle.meaning.specs.Edition2.{
-  fileLimit2,
-  edition,
-  fourOf,
-  movedOn,
-  namesTag,
-  namesLength,
-  optionalAt,
-  optionalVerdict,
-  optionals,
-  optionalFields,
-  namesAt,
-  fields2,
-  readVerdict2,
-  textOf2,
-  putAnswer,
-  putAfter,
-  secondOf,
-  toSecondVerdict,
-  toSecondAfter,
-  toFirstVerdict,
-}
+use Rattle.meaning.specs.Edition2.{fileLimit2, edition, fourOf, movedOn, namesTag, optionalAt, optionalVerdict, optionals, optionalFields, namesAt, fields2, readVerdict2, textOf2, putAnswer, putAfter, secondOf, toSecondVerdict, toSecondAfter, toFirstVerdict}
 use Rattle.laws.proofs.Chains.{opened, held, accepts, test-yes, given-no}
 use Rattle.laws.proofs.Writing.{one-file}
-use Rattle.laws.proofs.Edition2.{four-part, four-inside, four-second, whole, file-job2, optionals-end, to-second, second-text, to-first, first-reader}
+use Rattle.laws.proofs.Edition2.Optionals.{over, one}
+use Rattle.laws.proofs.Edition2.{four-part, four-inside, four-second, whole, file-job2, optionals-end, Optionals, optional-fields, to-second, second-text, to-first, first-reader}
 use Rattle.demands.proofs.FourFields.{four-places}
 use Rattle.demands.specs.Job.{jobIn}
 use Rattle.demands.specs.Edition2.{inSecond, inFirst, objectsIn, nameOf, optionalsFrom, Rising, FirstEdition, SecondEdition}
@@ -127,79 +106,29 @@ module _ (s : List ℕ) where
           ≡ optionalVerdict s (8 * objectsIn s) least at ⨾ optionalsFrom s (getD s at 0 + 1) (at + 3 + big s (at + 1) 2)
       turn = rw (lt-leb (length s) at l) refl
 
-  -- what an accepted optional field says
-  module _ (names least at : ℕ) (e : optionalVerdict s names least at ≡ accepted) where
-    abbrev one : Verdict
-    one = test (leb (at + 3) (length s)) 1 at
-
-    abbrev two : Verdict
-    two = test (leb least (getD s at 0)) 2 at
-
-    abbrev three : Verdict
-    three = test (not (eqb (getD s at 0) namesTag) || eqb (big s (at + 1) 2) names) 3 at
-
-    abbrev last : Verdict
-    last = test (leb (at + 3 + big s (at + 1) 2) (length s)) 1 at
-
-    body-inside : at + 3 + big s (at + 1) 2 ≤ length s
-    unfolding optionalVerdict
-    body-inside = leb-true _ _ (held (leb (at + 3 + big s (at + 1) 2) (length s)) 1 at (opened (one ⨾ two ⨾ three) last e .1))
-
-    tag-least : least ≤ getD s at 0
-    unfolding optionalVerdict
-    tag-least = leb-true _ _ (held (leb least (getD s at 0)) 2 at (opened one two (opened (one ⨾ two) three (opened (one ⨾ two ⨾ three) last e .0) .0) .1))
-
-    names-told : getD s at 0 ≡ namesTag → big s (at + 1) 2 ≡ names
-    unfolding optionalVerdict
-    names-told tag = eqb-true _ _ (rw (eq-eqb (getD s at 0) namesTag tag) at
-        (held (not (eqb (getD s at 0) namesTag) || eqb (big s (at + 1) 2) names) 3 at (opened (one ⨾ two) three (opened (one ⨾ two ⨾ three) last e .0) .1)))
-
   -- accepted ones rise, and end where the file does
-  rise : (k least at : ℕ) → at ≤ length s → length s ≤ at + k → optionals k s (8 * objectsIn s) least at ≡ accepted → Rising s least at
-  unfolding optionals
-  rise zero least at l m e = let ended : length s ≡ at = omega arith in subst (Rising s least) ended (no-more least)
-  rise (suc k) least at l m e = turn (λ o n. rise k (getD s at 0 + 1) (at + 3 + big s (at + 1) 2) o (omega arith) n) (decLe (length s) at)
-    where
-      turn : (at + 3 + big s (at + 1) 2 ≤ length s → optionals k s (8 * objectsIn s) (getD s at 0 + 1) (at + 3 + big s (at + 1) 2) ≡ accepted →
-          Rising s (getD s at 0 + 1) (at + 3 + big s (at + 1) 2)) → Dec (length s ≤ at) → Rising s least at
-      turn ih (yes o) = let ended : length s ≡ at = omega arith in subst (Rising s least) ended (no-more least)
-      turn ih (no o) =
-          let both = opened (optionalVerdict s (8 * objectsIn s) least at) (optionals k s (8 * objectsIn s) (getD s at 0 + 1) (at + 3 + big s (at + 1) 2))
-          (rw (lt-leb (length s) at (omega arith)) at e) in
-          let inside = body-inside (8 * objectsIn s) least at (both .0) in
-          one-more least at (tag-least (8 * objectsIn s) least at (both .0)) (names-told (8 * objectsIn s) least at (both .0)) inside (ih inside (both .1))
+  rise : {least at : ℕ} → Optionals s (8 * objectsIn s) least at → at ≤ length s → Rising s least at
+  rise (over {least = least} {at = at} l) m = let ended : length s ≡ at = omega arith in subst (Rising s least) ended (no-more least)
+  rise (one {least = least} {at = at} here tag names inside more) m = one-more least at tag names inside (rise more inside)
+
+  optionals-in : readVerdict2 s ≡ accepted → Optionals s (8 * objectsIn s) 128 (optionalAt s)
+  optionals-in e = optional-fields s (whole s (file-job2 s e .0) .optional)
 
   rises : readVerdict2 s ≡ accepted → Rising s 128 (optionalAt s)
-  unfolding optionalFields
-  rises e =
-      let w = whole s (file-job2 s e .0) in
-      rise (length s) 128 (optionalAt s) (four-inside s (w .edition-there .long)) (omega arith) (w .optional)
+  rises e = rise (optionals-in e) (four-inside s (whole s (file-job2 s e .0) .edition-there .long))
 
-  -- the first optional field of an accepted file, where there is one
-  first-optional : (k names least at : ℕ) → at < length s → length s ≤ at + k → optionals k s names least at ≡ accepted →
-      optionalVerdict s names least at ≡ accepted
-  unfolding optionals
-  first-optional zero names least at l m e = absurd (omega arith)
-  first-optional (suc k) names least at l m e =
-      opened _ (optionals k s names (getD s at 0 + 1) (at + 3 + big s (at + 1) 2)) (rw (lt-leb (length s) at l) at e) .0
+  -- names in the first of them have their length, and lie in the file
+  names-first : {at : ℕ} → Optionals s (8 * objectsIn s) 128 at → getD s at 0 ≡ 128 →
+      (big s (at + 1) 2 ≡ 8 * objectsIn s) × (at + 3 + big s (at + 1) 2 ≤ length s)
+  names-first (over {at = at} l) tag = absurd (omega (arith, tag, List·getD-eq-default s 0 {n = at} l))
+  names-first (one here least names inside more) tag = (names tag, inside)
 
   module _ (e : readVerdict2 s ≡ accepted) (tag : getD s (optionalAt s) 0 ≡ 128) where
-    there : optionalAt s < length s
-    there = by (decLe (length s) (optionalAt s))
-      where
-        by : Dec (length s ≤ optionalAt s) → optionalAt s < length s
-        by (yes l) = absurd (omega (arith, tag, List·getD-eq-default s 0 {n = optionalAt s} l))
-        by (no l) = omega arith
-
-    found : optionalVerdict s (namesLength (headOf (fourOf s))) namesTag (optionalAt s) ≡ accepted
-    unfolding optionalFields
-    found = first-optional (length s) (namesLength (headOf (fourOf s))) namesTag (optionalAt s) there (omega arith) (whole s (file-job2 s e .0) .optional)
-
     told : big s (optionalAt s + 1) 2 ≡ 8 * objectsIn s
-    told = names-told (8 * objectsIn s) namesTag (optionalAt s) found tag
+    told = names-first (optionals-in e) tag .0
 
     body : optionalAt s + 3 + big s (optionalAt s + 1) 2 ≤ length s
-    body = body-inside (8 * objectsIn s) namesTag (optionalAt s) found
+    body = names-first (optionals-in e) tag .1
 
     names-there : (namesAt s ≡ optionalAt s + 3) × (big s (optionalAt s + 1) 2 ≡ 8 * objectsIn s) × (namesAt s + 8 * objectsIn s ≤ length s)
     names-there = let at : namesAt s ≡ optionalAt s + 3 = rw (eq-eqb (getD s (optionalAt s) 0) namesTag tag) refl in

@@ -78,6 +78,8 @@ module _ (s : List ℕ) where
     pub same-job : Bytes s → readVerdict s ≡ accepted → jobIn (cardFile (cardTextOf s)) ≡ jobIn s
     -- For a refused file the refusal alone is printed
     pub refusal-printed : (k place : ℕ) → readVerdict s ≡ refused k place → cardTextOf s ≡ refusedLine k place
+    -- No text is longer than a card may be
+    pub card-is-short : length (cardTextOf s) ≤ 65536
 
   pub record CardsOfSecondFiles : Type 0 where
     -- The card of an accepted file of the second edition is accepted; ..
@@ -87,3 +89,4 @@ module _ (s : List ℕ) where
     -- .. and without any it makes its four fields, a file of the first edition: the same head, blocks, readings, set and sum
     pub same-four : Bytes s → readVerdict2 s ≡ accepted → length s ≤ optionalAt s → cardFile (cardTextOf2 s) ≡ fourOf s
     pub refusal-printed : (k place : ℕ) → readVerdict2 s ≡ refused k place → cardTextOf2 s ≡ refusedLine k place
+    pub card-is-short : Bytes s → length (cardTextOf2 s) ≤ 65536

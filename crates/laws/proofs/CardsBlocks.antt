@@ -2,21 +2,20 @@
 use mathlib.Core.Path.{_≡_, refl, sym, ap, ap₂, _∙_, subst}
 use mathlib.Core.Bool.{Bool, true, false, cond}
 use mathlib.Core.List.{List, [], _∷_, _++_, append-nil}
-use Prim.Native.Nat.{ℕ, zero, suc, _+_, _-_, _*_, _^_, _≤_, _<_}
+use Prim.Native.Nat.{ℕ, zero, suc, _+_, _-_, _*_, _≤_, _<_}
 use native.Mathlib.Nat.{add-zero, mul-suc, mul-le-mul-left}
 use native.Mathlib.Numerals.{add-one}
 use native.Mathlib.Omega.{arith}
-use lib.Dec.{eqb, ltb}
-use lib.IntN.{ℤ, pos}
+use lib.Dec.{eqb}
+use lib.IntN.{pos}
 use lib.ListN.{length, getD, take, drop, length-drop}
 use lib.Seq.{take-suc, take-add, take-all, getD-drop, drop-drop}
 use borrow.Author.Tests.{lt-ltb, eqb-true, eqb-false}
 use Rattle.records.specs.declared.Head.{Head}
 use Rattle.records.specs.declared.Card.{Card}
-use Rattle.records.specs.declared.Numeral.{Numeral}
 use Rattle.meaning.specs.Design.{listLength}
 use Rattle.meaning.specs.Writing.{Bytes}
-use Rattle.meaning.specs.Text.{ascii, digits, spaced, each, line}
+use Rattle.meaning.specs.Text.{ascii, digits, spaced, each}
 use Rattle.meaning.specs.SheetText.{same, digital, isNumber, numberOf}
 use Rattle.meaning.specs.Card.{
   objectOf,
@@ -29,7 +28,7 @@ use Rattle.meaning.specs.Card.{
   objectBytes,
   givenBytes,
 }
-use Rattle.meaning.specs.CardText.{objectText, sideText, blockLine}
+use Rattle.meaning.specs.CardText.{objectText, blockLine}
 use Rattle.laws.proofs.Bytes.{byte-below}
 use Rattle.laws.proofs.CardsWords.{wordly, Apart}
 use Rattle.laws.proofs.CardsNumbers.{digits-long, digits-word, digits-read, not-digits}

@@ -1,16 +1,17 @@
 -- The card of a file of the first edition.
 --     four-says                     the card of an accepted job: its head, its set, its sum, and the bytes of its blocks and readings
---     says-all, card-accepts        a card by all of its parts, and when it is accepted
+--     file-by, accepted-by          a card by all of its parts: its file, and when it is accepted
 --     four-fields, other-part       the four fields of such a card, and what follows them
+--     first-short                   no card is longer than 65,536 bytes
 --     first-again, first-accepted   the card that is printed for an accepted file makes that very file, and is accepted
 -- Assumes nothing.
 use mathlib.Core.Path.{_≡_, refl, sym, ap, ap₂, _∙_, subst}
 use mathlib.Core.Bool.{Bool, true, false, cond, not}
 use mathlib.Core.List.{List, [], _∷_, _++_, append-assoc, append-nil}
-use Prim.Native.Nat.{ℕ, zero, suc, _+_, _-_, _*_, _≤_, _<_}
+use Prim.Native.Nat.{ℕ, _+_, _-_, _*_, _≤_, _<_}
 use native.Mathlib.Nat.{mul-le-mul}
 use native.Mathlib.Omega.{arith}
-use lib.Dec.{eqb, ltb}
+use lib.Dec.{ltb}
 use lib.IntN.{ℤ}
 use lib.ListN.{length, take, drop, length-append}
 use lib.Seq.{take-at, drop-at}
@@ -18,6 +19,7 @@ use borrow.Author.Tests.{le-ltb}
 use Rattle.records.specs.declared.Head.{Head}
 use Rattle.records.specs.declared.Card.{Card}
 use Rattle.records.specs.declared.Verdict.{Verdict}
+use Rattle.records.specs.declared.Verdict.the-variants.{Accepted, Refused}
 use Rattle.meaning.specs.Design.{objects, blocks, listLength}
 use Rattle.meaning.specs.Refusals.{accepted, refused}
 use Rattle.meaning.specs.Calls.{jobVerdict}
@@ -47,6 +49,7 @@ use Rattle.meaning.specs.CardText.{readingText, cardText, fourText, cardUnder, 
 use Rattle.laws.proofs.Chains.{listed-most, Job, job}
 use Rattle.laws.proofs.Files.{file-job}
 use Rattle.laws.proofs.Bytes.{numbers-bytes}
+use Rattle.laws.proofs.Lengths.{refused-length}
 use Rattle.laws.proofs.Writing.{restraint-long, objects-bytes, writes-again}
 use Rattle.laws.proofs.CardsWords.{plain, texts, cardOn, bytesOn, card-plain, bytes-plain}
 use Rattle.laws.proofs.CardsSteps.{Says, Any, then, says-as, state}
@@ -152,6 +155,15 @@ module _ (h : Head) (d : List ℕ) (y : List ℤ) (w : ℕ) (M : ℤ) (e : jobVe
 
 -- ---- a file of the first edition
 
+-- the text for any file is at most 64 KiB
+pub first-short : (s : List ℕ) → length (cardTextOf s) ≤ cardLimit
+unfolding cardTextOf
+first-short s = by (readVerdict s) refl
+  where
+    by : (v : Verdict) → readVerdict s ≡ v → length (cardUnder v s) ≤ cardLimit
+    by Accepted e = omega (arith, four-length (headOf s) (blocksOf s) (readingsOf s) (setOf s) (sumOf s) (file-job s e .1))
+    by (Refused k place) e = omega (arith, refused-length k place)
+
 module _ (s : List ℕ) (b : Bytes s) (e : readVerdict s ≡ accepted) where
   held : jobVerdict (headOf s) (blocksOf s) (readingsOf s) (setOf s) (sumOf s) ≡ accepted
   held = file-job s e .1
@@ -186,8 +198,7 @@ module _ (s : List ℕ) (b : Bytes s) (e : readVerdict s ≡ accepted) where
       let h = headOf s in
       let c = fourth h (setOf s) (sumOf s) in
       let t = cardTextOf s in
-      let short : length t ≤ cardLimit = omega (arith, ap length text-is, four-length h (blocksOf s) (readingsOf s) (setOf s) (sumOf s) held) in
       let f = job h (blocksOf s) (readingsOf s) (setOf s) (sumOf s) held .measures .design .sizes in
-      accepted-by t c (blocksOf s ++ readingsBody (readingsOf s)) says short refl refl (omega (arith, listed-most h f, f .blocks-most))
+      accepted-by t c (blocksOf s ++ readingsBody (readingsOf s)) says (first-short s) refl refl (omega (arith, listed-most h f, f .blocks-most))
       (ap (λ (u : Bool). cond u (movedTo t startAt (readVerdict2 (cardFile t))) (movedTo t 0 (readVerdict (cardFile t)))) one
       ∙ ap (movedTo t 0) (ap readVerdict first-again ∙ e))

@@ -1,19 +1,16 @@
 -- The first lines of a card: the kind of design, its size, and whether ∞ takes part. Assumes nothing.
-use mathlib.Core.Path.{_≡_, refl, sym, ap, ap₂, _∙_}
+use mathlib.Core.Path.{_≡_, refl, ap}
 use mathlib.Core.Bool.{Bool, true, false, cond}
-use mathlib.Core.List.{List, [], _∷_, _++_}
-use Prim.Native.Nat.{ℕ, zero, suc, _+_, _%_, _≤_, _<_}
+use mathlib.Core.List.{[], _++_}
+use Prim.Native.Nat.{ℕ, zero, suc, _+_, _%_, _≤_}
 use native.Mathlib.Omega.{arith}
 use lib.Dec.{eqb, ltb}
-use lib.IntN.{ℤ, pos}
-use lib.ListN.{length}
-use borrow.Author.Tests.{lt-ltb, le-ltb, eqb-true, eqb-false, ltb-true, ltb-false}
+use lib.IntN.{pos}
 use Rattle.records.specs.declared.Head.{Head}
 use Rattle.records.specs.declared.Card.{Card}
-use Rattle.meaning.specs.File.{noHead}
 use Rattle.meaning.specs.Text.{ascii, digits, spaced, line}
-use Rattle.meaning.specs.SheetText.{same, numberOf}
-use Rattle.meaning.specs.Card.{noCard, next, sizing, withN, withFlag, takeKind, takeSize, takeFixed, taken, givenBytes}
+use Rattle.meaning.specs.SheetText.{same}
+use Rattle.meaning.specs.Card.{noCard, takeKind, takeSize, takeFixed, taken, givenBytes}
 use Rattle.meaning.specs.CardText.{kindLine, fixedLine}
 use Rattle.laws.proofs.CardsWords.{wordly, Apart}
 use Rattle.laws.proofs.CardsNumbers.{digits-long, digits-word, digits-read}

@@ -1,8 +1,7 @@
 -- How long the card of an accepted job is at most. Assumes nothing.
-use mathlib.Core.Path.{_≡_, refl}
 use mathlib.Core.Bool.{Bool, true, false, cond}
 use mathlib.Core.List.{List, [], _∷_, _++_}
-use Prim.Native.Nat.{ℕ, zero, suc, _+_, _*_, _%_, _^_, _≤_, _<_}
+use Prim.Native.Nat.{ℕ, suc, _+_, _*_, _%_, _^_, _≤_, _<_}
 use native.Mathlib.Omega.{arith}
 use lib.Dec.{eqb, ltb}
 use lib.IntN.{ℤ, pos, negsuc, natAbs}
@@ -11,7 +10,7 @@ use Rattle.records.specs.declared.Head.{Head}
 use Rattle.meaning.specs.Design.{objects, blocks}
 use Rattle.meaning.specs.Analysis.{member, reading}
 use Rattle.meaning.specs.Writing.{Bytes}
-use Rattle.meaning.specs.Text.{ascii, spaced, signedText, each}
+use Rattle.meaning.specs.Text.{ascii, spaced, signedText}
 use Rattle.meaning.specs.CardText.{kindLine, fixedLine, objectText, blockLine, memberText, restraintLine, readingText, readingsLines, cardText}
 use Rattle.laws.proofs.Chains.{Job}
 use Rattle.laws.proofs.Bytes.{byte-below}

@@ -4,8 +4,8 @@
 --     signed-word, signed-read, reading-word   a number with its sign
 --     not-digits      digits are no other word
 -- Assumes nothing.
-use mathlib.Core.Path.{_≡_, refl, sym, ap, ap₂, _∙_}
-use mathlib.Core.Bool.{Bool, true, false, cond, not, _&&_, _||_}
+use mathlib.Core.Path.{_≡_, refl, _∙_}
+use mathlib.Core.Bool.{Bool, true, false, cond, not, _&&_}
 use mathlib.Core.List.{List, [], _∷_, _++_}
 use Prim.Native.Nat.{ℕ, zero, suc, _+_, _-_, _*_, _/_, _%_, _^_, _≤_, _<_}
 use native.Mathlib.Nat.{pow-suc, div-lt-iff-lt-mul}
@@ -15,8 +15,6 @@ use lib.IntN.{ℤ, pos, negsuc, natAbs}
 use lib.ListN.{length, getD, length-append}
 use borrow.Author.Tests.{lt-ltb, le-ltb, ne-eqb, ltb-true, ltb-false, not-true}
 use Rattle.algebra.proofs.Tests.{and-left, and-right, and-both}
-use Rattle.records.specs.declared.Numeral.{Numeral}
-use Rattle.records.specs.declared.SignedNumeral.{SignedNumeral}
 use Rattle.meaning.specs.Refusals.{readingLimit}
 use Rattle.meaning.specs.Text.{digits, signedText}
 use Rattle.meaning.specs.SheetText.{same, digital, decimal, isNumber, numberOf, signedOf}

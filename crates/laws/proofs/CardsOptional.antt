@@ -1,11 +1,10 @@
 -- The optional fields of a card: the names of its objects, and the others.
---     Optionals, optional-fields     what the optional fields of an accepted file are
 --     optional-says                  their lines add them, byte for byte
 --     optional-length                how long their lines are at most
 -- Assumes nothing.
 use mathlib.Core.Path.{_≡_, refl, sym, ap, ap₂, _∙_, subst, subst₂}
-use mathlib.Core.Bool.{Bool, true, false, cond, not, _||_, false≢true}
-use mathlib.Core.List.{List, [], _∷_, _++_, append-assoc, append-nil}
+use mathlib.Core.Bool.{Bool, true, false, cond, _||_}
+use mathlib.Core.List.{List, [], _∷_, _++_}
 use Prim.Native.Nat.{ℕ, zero, suc, _+_, _-_, _*_, _≤_, _<_}
 use native.Mathlib.Nat.{add-zero}
 use native.Mathlib.Numerals.{add-one}
@@ -13,24 +12,23 @@ use native.Mathlib.Omega.{arith}
 use lib.Dec.{eqb, leb}
 use lib.IntN.{ℤ}
 use lib.ListN.{length, getD, take, drop, length-append, length-take, length-drop, drop-of-length-le, take-append-drop, List·getD-eq-default}
-use lib.Seq.{take-add, drop-drop, getD-take, getD-drop, length-take-le}
-use borrow.Author.Tests.{eq-eqb, ne-eqb, eqb-true, eqb-false, leb-true, leb-false, le-leb, lt-leb}
+use lib.Seq.{take-add, drop-drop, getD-take, getD-drop}
+use borrow.Author.Tests.{ne-eqb, eqb-true, eqb-false, leb-true, leb-false, le-leb, lt-leb}
 use Rattle.records.specs.declared.Head.{Head}
 use Rattle.records.specs.declared.Card.{Card}
-use Rattle.records.specs.declared.Verdict.{Verdict}
 use Rattle.meaning.specs.Design.{objects}
-use Rattle.meaning.specs.Refusals.{accepted, test, _⨾_}
 use Rattle.meaning.specs.File.{big, headOf}
 use Rattle.meaning.specs.Writing.{Bytes, bytesOf}
 use Rattle.meaning.specs.Text.{ascii, each, line, hexText, nameText}
-use Rattle.meaning.specs.Edition2.{fourOf, namesTag, namesLength, optionalAt, optionalVerdict, optionals, optionalFields, namesAt}
+use Rattle.meaning.specs.Edition2.{fourOf, namesTag, namesLength, optionalAt, namesAt}
 use Rattle.meaning.specs.SheetText.{same, digital, isNumber, numberOf, signedOf}
 use Rattle.meaning.specs.Card.{isName, nameOf, isReading, longer, takeAfter, takeName, takeTag, takeBytes, taken, readingBytes, afterBytes, fieldBytes, givenBytes}
 use Rattle.meaning.specs.CardText.{nameAt, namesLine, bodyText, otherLine, otherLines, othersAt}
-use Rattle.laws.proofs.Chains.{opened, held}
 use Rattle.laws.proofs.Bytes.{byte-below, bytes-long}
 use Rattle.laws.proofs.Clean.{part-length}
-use Rattle.laws.proofs.Writing.{Fielded, field-again}
+use Rattle.laws.proofs.Writing.{field-again}
+use Rattle.laws.proofs.Edition2.{Optionals}
+use Rattle.laws.proofs.Edition2.Optionals.{over, one}
 use Rattle.laws.proofs.Lengths.{each-length}
 use Rattle.laws.proofs.CardsWords.{wordly, Apart}
 use Rattle.laws.proofs.CardsNames.{name-most, name-long, name-word, name-is, name-read, tag-word, tag-byte, tag-read, body-most, body-long, body-word, body-is, body-read}
@@ -44,43 +42,6 @@ bytes-part s b a n i l = by (leb (suc i) n) refl
     by : (t : Bool) → leb (suc i) n ≡ t → getD (take n (drop a s)) i 0 < 256
     by true e = rw (getD-take n (drop a s) i 0 (leb-true (suc i) n e), getD-drop a s i 0) (byte-below s b (a + i))
     by false e = absurd (omega (arith, l, leb-false (suc i) n e, length-take n (drop a s)))
-
--- ---- the optional fields of an accepted file
-
--- from `at` on, their tags at least `least`; the names have their length
-pub data Optionals (s : List ℕ) (names : ℕ) : ℕ → ℕ → Type 0 where
-  over : {least at : ℕ} → length s ≤ at → Optionals s names least at
-  one : {least at : ℕ} → at < length s → least ≤ getD s at 0 → (getD s at 0 ≡ namesTag → big s (at + 1) 2 ≡ names) →
-      at + 3 + big s (at + 1) 2 ≤ length s → Optionals s names (getD s at 0 + 1) (at + 3 + big s (at + 1) 2) → Optionals s names least at
-
-optionals-are : (k : ℕ) (s : List ℕ) (names least at : ℕ) → length s ≤ at + k → optionals k s names least at ≡ accepted → Optionals s names least at
-unfolding optionals optionalVerdict
-optionals-are zero s names least at l e = let end : length s ≤ at = omega arith in over end
-optionals-are (suc k) s names least at l e =
-    by (leb (length s) at) refl (λ r. optionals-are k s names (getD s at 0 + 1) (at + 3 + big s (at + 1) 2) (omega arith) r) e
-  where
-    rest : Verdict
-    rest = optionals k s names (getD s at 0 + 1) (at + 3 + big s (at + 1) 2)
-
-    fits : (a b : Bool) → not a || b ≡ true → a ≡ true → b ≡ true
-    fits true b e f = e
-    fits false b e f = absurd (false≢true f)
-
-    by : (t : Bool) → leb (length s) at ≡ t → (rest ≡ accepted → Optionals s names (getD s at 0 + 1) (at + 3 + big s (at + 1) 2)) →
-        cond t accepted (optionalVerdict s names least at ⨾ rest) ≡ accepted → Optionals s names least at
-    by true q ih e = over (leb-true (length s) at q)
-    by false q ih e =
-        let x = opened (optionalVerdict s names least at) rest e in
-        let y = opened _ (test (leb (at + 3 + big s (at + 1) 2) (length s)) 1 at) (x .0) in
-        let z = opened _ (test (not (eqb (getD s at 0) namesTag) || eqb (big s (at + 1) 2) names) 3 at) (y .0) in
-        let v = opened (test (leb (at + 3) (length s)) 1 at) (test (leb least (getD s at 0)) 2 at) (z .0) in
-        one (leb-false (length s) at q) (leb-true _ _ (held _ 2 at (v .1)))
-        (λ n. eqb-true _ _ (fits (eqb (getD s at 0) namesTag) _ (held _ 3 at (z .1)) (eq-eqb _ _ n)))
-        (leb-true _ _ (held _ 1 at (y .1))) (ih (x .1))
-
-pub optional-fields : (s : List ℕ) → optionalFields s ≡ accepted → Optionals s (namesLength (headOf (fourOf s))) namesTag (optionalAt s)
-unfolding optionalFields
-optional-fields s e = optionals-are (length s) s (namesLength (headOf (fourOf s))) namesTag (optionalAt s) (omega arith) e
 
 -- a field and what follows it
 field-rest : (s : List ℕ) (a n : ℕ) → take (3 + n) (drop a s) ++ drop (a + 3 + n) s ≡ drop a s

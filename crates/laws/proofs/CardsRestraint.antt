@@ -1,24 +1,24 @@
 -- The restraint and the readings of a card: the members of its set, the accepted sum, a reading for each block. Assumes nothing.
 use mathlib.Core.Path.{_≡_, refl, sym, ap, ap₂, _∙_, subst}
-use mathlib.Core.Bool.{Bool, true, false, cond, _&&_}
+use mathlib.Core.Bool.{Bool, true, false, cond}
 use mathlib.Core.List.{List, [], _∷_, _++_, append-assoc, append-nil}
 use Prim.Native.Nat.{ℕ, zero, suc, _+_, _*_, _/_, _%_, _^_, _≤_, _<_, zero-le}
-use native.Mathlib.Nat.{add-zero, pow-suc, pow-le-pow-right, mod-lt, mod-eq-of-lt, mul-suc, div-eq-of-lt}
+use native.Mathlib.Nat.{pow-suc, pow-le-pow-right, mod-lt, mod-eq-of-lt, div-eq-of-lt}
 use native.Mathlib.Numerals.{add-one}
 use native.Mathlib.Omega.{arith}
 use lib.Arith.{mod-mul}
-use lib.Dec.{eqb, ltb, lit<}
+use lib.Dec.{eqb, lit<}
 use lib.IntN.{ℤ, pos, natAbs}
-use lib.ListN.{length, getD, take}
+use lib.ListN.{length, take}
 use lib.Seq.{take-suc, take-all}
-use borrow.Author.Tests.{eq-eqb, ne-eqb, eqb-true, eqb-false}
+use borrow.Author.Tests.{ne-eqb, eqb-true, eqb-false}
 use Rattle.records.specs.declared.Head.{Head}
 use Rattle.records.specs.declared.Card.{Card}
 use Rattle.meaning.specs.Analysis.{member, reading}
 use Rattle.meaning.specs.Refusals.{readingLimit}
 use Rattle.meaning.specs.Writing.{bytesOf, wrapped, readingsBody}
 use Rattle.meaning.specs.Text.{ascii, digits, spaced, signedText, each, line}
-use Rattle.meaning.specs.SheetText.{same, numberOf, signedOf}
+use Rattle.meaning.specs.SheetText.{same}
 use Rattle.meaning.specs.Card.{memberOf, takeMember, takeStandard, takeSum, takeReading, takeAfter, takeBlock, taken, readingBytes, afterBytes, givenBytes}
 use Rattle.meaning.specs.CardText.{memberText, readingText}
 use Rattle.laws.proofs.CardsWords.{wordly, Apart}

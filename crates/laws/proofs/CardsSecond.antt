@@ -2,36 +2,39 @@
 --     second-again      with optional fields it makes that very file
 --     second-four       without them it makes the four fields, a file of the first edition
 --     second-accepted   it is accepted
+--     second-short      no card is longer than 65,536 bytes
 -- Assumes nothing.
 use mathlib.Core.Path.{_≡_, refl, sym, ap, ap₂, _∙_, subst}
 use mathlib.Core.Bool.{Bool, true, false, cond}
-use mathlib.Core.List.{List, [], _∷_, _++_, append-assoc}
+use mathlib.Core.List.{List, _++_, append-assoc}
 use Prim.Native.Nat.{ℕ, _+_, _-_, _*_, _≤_, _<_}
 use native.Mathlib.Omega.{arith}
 use native.Mathlib.Decide.{decLe}
 use native.Mathlib.Nat.{lt-of-not-le}
 use lib.IntN.{ℤ}
-use lib.ListN.{length, take, drop, length-append, length-drop, take-append-drop}
+use lib.ListN.{length, drop, length-append, length-drop, take-append-drop}
 use lib.Seq.{drop-drop}
 use borrow.Author.Tests.{lt-ltb, le-ltb}
 use Rattle.records.specs.declared.Head.{Head}
 use Rattle.records.specs.declared.Card.{Card}
 use Rattle.records.specs.declared.Verdict.{Verdict}
-use Rattle.meaning.specs.Design.{objects, blocks, listLength}
+use Rattle.records.specs.declared.Verdict.the-variants.{Accepted, Refused}
+use Rattle.meaning.specs.Design.{blocks, listLength}
 use Rattle.meaning.specs.Refusals.{accepted}
 use Rattle.meaning.specs.Calls.{jobVerdict}
 use Rattle.meaning.specs.File.{headOf, blocksOf, readingsOf, setOf, sumOf, endAt, readVerdict}
-use Rattle.meaning.specs.Writing.{Bytes, readingsBody, fileOf, fileLength}
-use Rattle.meaning.specs.Edition2.{fileLimit2, editionField, startAt, fourOf, namesTag, namesLength, optionalAt, readVerdict2}
+use Rattle.meaning.specs.Writing.{Bytes, readingsBody, fileOf}
+use Rattle.meaning.specs.Edition2.{editionField, startAt, fourOf, namesTag, namesLength, optionalAt, readVerdict2}
 use Rattle.meaning.specs.Card.{noCard, otherBytes, fourFields, isSecond, fileFrom, cardFile, cardLimit, movedTo, cardVerdict}
 use Rattle.meaning.specs.CardText.{namesLine, otherLines, othersAt, fourText, cardUnder2, cardTextOf2}
 use Rattle.laws.proofs.Chains.{Job, job}
 use Rattle.laws.proofs.Files.{file-job}
+use Rattle.laws.proofs.Lengths.{refused-length}
 use Rattle.laws.proofs.Writing.{file-length, writes-again}
-use Rattle.laws.proofs.Edition2.{four-part, four-inside, edition-front, Whole, whole, file-job2}
-use Rattle.laws.proofs.CardsSteps.{Says, Any, then, says-as, state}
+use Rattle.laws.proofs.Edition2.{four-part, four-inside, edition-front, Whole, whole, file-job2, Optionals, optional-fields}
+use Rattle.laws.proofs.CardsSteps.{Says, Any, then, state}
 use Rattle.laws.proofs.CardsFirst.{file-by, accepted-by, fourth, four-says, four-length, four-fields, other-part}
-use Rattle.laws.proofs.CardsOptional.{bytes-part, Optionals, optional-fields, Ends, optional-says, optional-length}
+use Rattle.laws.proofs.CardsOptional.{bytes-part, Ends, optional-says, optional-length}
 
 module _ (s : List ℕ) (b : Bytes s) (e : readVerdict2 s ≡ accepted) where
   abbrev four : List ℕ
@@ -140,20 +143,17 @@ module _ (s : List ℕ) (b : Bytes s) (e : readVerdict2 s ≡ accepted) where
   pub second-four : length s ≤ optionalAt s → cardFile (cardTextOf2 s) ≡ fourOf s
   second-four l = made-by false (second-no l) ∙ four-made
 
+  short : length (cardTextOf2 s) ≤ cardLimit
+  short =
+      let four-most = four-length h (blocksOf four) (readingsOf four) w M held in
+      let others-most = optional-length s b (its-job .measures .design .sizes .objects-most) fields-are in
+      omega (arith, ap length text-is, length-append (fourText four) optional, four-most, others-most, parts .short)
+
   -- and the card is accepted
   pub second-accepted : cardVerdict (cardTextOf2 s) ≡ accepted
   unfolding last
   second-accepted =
       let t = cardTextOf2 s in
-      let f = its-job .measures .design .sizes in
-      let short : length t ≤ cardLimit = omega (
-        arith,
-        ap length text-is,
-        length-append (fourText four) optional,
-        four-length h (blocksOf four) (readingsOf four) w M held,
-        optional-length s b (f .objects-most) fields-are,
-        parts .short,
-      ) in
       accepted-by t last body says short refl (ends .whole) (omega (arith, four-long, four-inside s (parts .edition-there .long), length-drop (optionalAt s) s, parts .short)) (by (decLe (length s) (optionalAt s)))
     where
       by : Dec (length s ≤ optionalAt s) →
@@ -161,3 +161,12 @@ module _ (s : List ℕ) (b : Bytes s) (e : readVerdict2 s ≡ accepted) where
           ≡ accepted
       by (yes l) = rw (second-no l) (ap (movedTo (cardTextOf2 s) 0) (ap readVerdict (second-four l) ∙ four-read))
       by (no l) = rw (second-yes (lt-of-not-le l)) (ap (movedTo (cardTextOf2 s) startAt) (ap readVerdict2 (second-again (lt-of-not-le l)) ∙ e))
+
+-- the text for any file is at most 64 KiB
+pub second-short : (s : List ℕ) → Bytes s → length (cardTextOf2 s) ≤ cardLimit
+unfolding cardTextOf2
+second-short s b = by (readVerdict2 s) refl
+  where
+    by : (v : Verdict) → readVerdict2 s ≡ v → length (cardUnder2 v s) ≤ cardLimit
+    by Accepted e = subst (λ (v : Verdict). length (cardUnder2 v s) ≤ cardLimit) e (short s b e)
+    by (Refused k place) e = omega (arith, refused-length k place)

@@ -2,16 +2,17 @@
 --     whole                     what accepted fields say: the edition, the four fields, the optional ones
 --     four-part, four-inside    the four fields as a part of the file
 --     read-moved2, solve-moved2 once the fields are accepted the verdict is that of the four fields as a file of the first edition, moved
+--     optional-fields           what accepted optional fields are, one after the other
 --     file-job2                 an accepted file holds an accepted file of the first edition
 --     to-second, to-first       moved to the second edition a file is accepted, and its four fields are the file; moved back and forth it is the same
 --     first-reader              a reader of the first edition refuses a file of the second with 2 at 0
 -- Assumes nothing.
 use mathlib.Core.Path.{_≡_, refl, sym, ap, _∙_}
-use mathlib.Core.Bool.{Bool, true, false}
+use mathlib.Core.Bool.{Bool, true, false, cond, not, _||_, false≢true}
 use mathlib.Core.List.{List, [], _∷_, _++_}
 use Prim.Native.Nat.{ℕ, zero, suc, _+_, _-_, _*_, _≤_, _<_}
 use native.Mathlib.Omega.{arith}
-use borrow.Author.Tests.{eqb-true, leb-true, le-leb}
+use borrow.Author.Tests.{eqb-true, eq-eqb, leb-true, leb-false, le-leb}
 use lib.Dec.{eqb, leb}
 use lib.IntN.{ℤ}
 use lib.ListN.{length, getD, take, drop, length-append, length-drop}
@@ -35,6 +36,7 @@ use Rattle.meaning.specs.Edition2.{
   namesTag,
   namesLength,
   optionalAt,
+  optionalVerdict,
   optionals,
   optionalFields,
   fields2,
@@ -202,6 +204,41 @@ pub optionals-end : (k : ℕ) (s : List ℕ) (names least at : ℕ) → length s
 unfolding optionals
 optionals-end zero s names least at l = refl
 optionals-end (suc k) s names least at l = rw (le-leb (length s) at l) refl
+
+-- from `at` on, their tags at least `least`; the names have their length
+pub data Optionals (s : List ℕ) (names : ℕ) : ℕ → ℕ → Type 0 where
+  over : {least at : ℕ} → length s ≤ at → Optionals s names least at
+  one : {least at : ℕ} → at < length s → least ≤ getD s at 0 → (getD s at 0 ≡ namesTag → big s (at + 1) 2 ≡ names) →
+      at + 3 + big s (at + 1) 2 ≤ length s → Optionals s names (getD s at 0 + 1) (at + 3 + big s (at + 1) 2) → Optionals s names least at
+
+optionals-are : (k : ℕ) (s : List ℕ) (names least at : ℕ) → length s ≤ at + k → optionals k s names least at ≡ accepted → Optionals s names least at
+unfolding optionals optionalVerdict
+optionals-are zero s names least at l e = let end : length s ≤ at = omega arith in over end
+optionals-are (suc k) s names least at l e =
+    by (leb (length s) at) refl (λ r. optionals-are k s names (getD s at 0 + 1) (at + 3 + big s (at + 1) 2) (omega arith) r) e
+  where
+    rest : Verdict
+    rest = optionals k s names (getD s at 0 + 1) (at + 3 + big s (at + 1) 2)
+
+    fits : (a b : Bool) → not a || b ≡ true → a ≡ true → b ≡ true
+    fits true b e f = e
+    fits false b e f = absurd (false≢true f)
+
+    by : (t : Bool) → leb (length s) at ≡ t → (rest ≡ accepted → Optionals s names (getD s at 0 + 1) (at + 3 + big s (at + 1) 2)) →
+        cond t accepted (optionalVerdict s names least at ⨾ rest) ≡ accepted → Optionals s names least at
+    by true q ih e = over (leb-true (length s) at q)
+    by false q ih e =
+        let x = opened (optionalVerdict s names least at) rest e in
+        let y = opened _ (test (leb (at + 3 + big s (at + 1) 2) (length s)) 1 at) (x .0) in
+        let z = opened _ (test (not (eqb (getD s at 0) namesTag) || eqb (big s (at + 1) 2) names) 3 at) (y .0) in
+        let v = opened (test (leb (at + 3) (length s)) 1 at) (test (leb least (getD s at 0)) 2 at) (z .0) in
+        one (leb-false (length s) at q) (leb-true _ _ (held _ 2 at (v .1)))
+        (λ n. eqb-true _ _ (fits (eqb (getD s at 0) namesTag) _ (held _ 3 at (z .1)) (eq-eqb _ _ n)))
+        (leb-true _ _ (held _ 1 at (y .1))) (ih (x .1))
+
+pub optional-fields : (s : List ℕ) → optionalFields s ≡ accepted → Optionals s (namesLength (headOf (fourOf s))) namesTag (optionalAt s)
+unfolding optionalFields
+optional-fields s e = optionals-are (length s) s (namesLength (headOf (fourOf s))) namesTag (optionalAt s) (omega arith) e
 
 -- ---- a file moved to the second edition
 

@@ -1,4 +1,5 @@
--- What follows from the definitions of the base: one file a subject, each over the files before it. From Bytes on: a job's file and its listing.
+-- What follows from the definitions of the base: one file a subject, each over the files before it. From Bytes on: a job's file and its listing; from
+-- CardsWords on: cards.
 pub mod Chains
 pub mod Occurrences
 pub mod Clean

@@ -4,6 +4,7 @@
 //!
 //!     calls SEED COUNT            every call of hosts/bench.h on a job at every bound, every stored one and COUNT seeded ones, by their parts and as files
 //!     calls SEED COUNT spoiled    the same, but one bit of what the count expects is turned in each comparison, and each must see it
+//!     calls SEED COUNT over COMMAND ..    the same, asked of a program in another language (host.rs), which lends rooms of its own
 //!
 //! A call that the count accepts is lent rooms of just the length that it asks for, longer ones, and each room in turn too short, which is refused by 10. One
 //! that it refuses is lent long rooms and none. Around each room lie entries that are not lent; what a call does not write must stay as it was.
@@ -23,6 +24,7 @@ mod design;
 mod editions;
 mod field;
 mod groups;
+mod host;
 mod job;
 mod listing;
 mod papers;
@@ -39,6 +41,7 @@ mod stored;
 use asked::{at_bounds, harm, look_for_field, numbers, places, Asked, Solved, Test, ORDER};
 use design::{pairs, Balance, Block};
 use groups::{Counts, Grouping};
+use host::Host;
 use job::{Head, Refusal};
 use parts::parts_of;
 use pooled::Pooled;
@@ -48,9 +51,10 @@ use std::collections::{BTreeMap, BTreeSet};
 use std::ffi::c_void;
 use std::process::ExitCode;
 
-/// A call: its name, the rooms and slots that it is lent, how it is made, the tests that it makes, and what it leaves where it accepts.
+/// A call: its name, what it takes, the rooms and slots that it is lent, how it is made, the tests that it makes, and what it leaves where it accepts.
 struct Call {
     name: &'static str,
+    taken: &'static [&'static str],
     rooms: &'static [&'static str],
     made: fn(&Asked, &mut Lent) -> u64,
     tests: &'static [&'static [Test]],
@@ -69,6 +73,7 @@ macro_rules! call {
     ($name:ident($($taken:ident)*; $($room:ident)*), [$($tests:expr),*], $answer:expr) => {
         Call {
             name: stringify!($name),
+            taken: &[$(stringify!($taken)),*],
             rooms: &[$(stringify!($room)),*],
             made: |asked, lent| passed!($name asked lent [] [] [$($room)*] $($taken)*),
             tests: &[$($tests),*],
@@ -427,6 +432,50 @@ impl Lent {
 struct Tally {
     alike: BTreeMap<(u8, Option<Test>), u64>,
     differing: u64,
+    /// asked of a host that cannot say it
+    beyond: u64,
+}
+
+/// How calls are made: as a program in C makes them, what is expected spoiled or not; or over a host, to which the requests on one job go together.
+enum How {
+    Directly { spoiled: bool },
+    Over { host: Host, waiting: Vec<Waiting> },
+}
+
+/// A request that waits for its answer: whose it is, what it asks, what is expected, and how often that was.
+struct Waiting {
+    call: &'static str,
+    about: String,
+    request: String,
+    expected: String,
+    kind: (u8, Option<Test>),
+}
+
+impl How {
+    fn over(&self) -> bool {
+        matches!(self, How::Over { .. })
+    }
+
+    /// Hears what a host answers to all that waits.
+    fn settle(&mut self, tallies: &mut [Tally]) {
+        let How::Over { host, waiting } = self else { return };
+        let answers = host.answers(&waiting.iter().map(|asked| asked.request.as_str()).collect::<Vec<_>>());
+        for (asked, answer) in waiting.drain(..).zip(answers.into_iter().map(Some).chain(std::iter::repeat(None))) {
+            let tally = &mut tallies[CALLS.iter().position(|call| call.name == asked.call).expect("a call of the table")];
+            match answer.as_deref() {
+                Some("beyond") => tally.beyond += 1,
+                Some(answer) if answer == asked.expected => *tally.alike.entry(asked.kind).or_insert(0) += 1,
+                _ => {
+                    tally.differing += 1;
+                    if tally.differing <= 3 {
+                        let cut = |text: &str| text.chars().take(300).collect::<String>();
+                        let found = answer.map_or("nothing".to_string(), |answer| cut(&answer));
+                        println!("{}, {}: it answers {found}, the count {}; asked: {}", asked.call, asked.about, cut(&asked.expected), cut(&asked.request));
+                    }
+                }
+            }
+        }
+    }
 }
 
 impl Call {
@@ -439,10 +488,22 @@ impl Call {
         ORDER.iter().filter(|(test, ..)| self.makes(*test)).find_map(|(test, _, look)| Some((*test, look(asked)?)))
     }
 
-    /// Makes the call with rooms of several lengths: of all kinds, or where it is tried often, of two.
-    fn compare(&self, asked: &Asked, often: bool, seed: &mut Seed, spoiled: bool, tally: &mut Tally) {
+    /// Makes the call with rooms of several lengths: of all kinds, or where it is tried often, of two. A host is asked once: the rooms are its own.
+    fn compare(&self, asked: &Asked, often: bool, seed: &mut Seed, how: &mut How, tally: &mut Tally) {
         let refusal = self.refusal(asked);
         let left = if refusal.is_none() { (self.answer)(asked) } else { vec![] };
+        let spoiled = match how {
+            How::Directly { spoiled } => *spoiled,
+            How::Over { waiting, .. } => {
+                let (kind, expected) = match refusal {
+                    Some((test, Refusal { number, index, place })) => ((number, Some(test)), format!("refused {number} {index} {}", place as u64 & ((1 << 48) - 1))),
+                    None => ((0, None), left.iter().fold("accepted".to_string(), |said, left| said + " " + &host::commas(&left.entries))),
+                };
+                let about = format!("{}, {}", asked.about, asked.aside);
+                waiting.push(Waiting { call: self.name, about, request: host::request(self.name, self.taken, asked), expected, kind });
+                return;
+            }
+        };
         let mut kinds = self.lengths(&left, seed);
         if often && kinds.len() > 2 {
             let other = 1 + seed.below(kinds.len() - 1);
@@ -509,22 +570,25 @@ impl Call {
         })
     }
 
-    /// What must have been compared: an acceptance, and a refusal by each number of each test and, where there are rooms, by 10.
-    fn never_compared(&self, tally: &Tally) -> Vec<(u8, Option<Test>)> {
+    /// What must have been compared: an acceptance, and a refusal by each number of each test and, where there are rooms of ours, by 10.
+    fn never_compared(&self, tally: &Tally, how: &How) -> Vec<(u8, Option<Test>)> {
         let tests = ORDER.iter().filter(|(test, ..)| self.makes(*test));
         let refusals = tests.flat_map(|(test, numbers, _)| numbers.iter().map(move |number| (*number, Some(*test))));
-        let rooms = if self.rooms.is_empty() { None } else { Some((10, None)) };
+        let rooms = if self.rooms.is_empty() || how.over() { None } else { Some((10, None)) };
         refusals.chain([(0, None)]).chain(rooms).filter(|kind| !tally.alike.contains_key(kind)).collect()
     }
 
     /// The line of a call, and whether it passed.
-    fn told(&self, tally: &Tally) -> bool {
+    fn told(&self, tally: &Tally, how: &How) -> bool {
         let mut numbers = BTreeMap::new();
         tally.alike.iter().for_each(|((number, _), count)| *numbers.entry(*number).or_insert(0) += count);
         let accepted = numbers.remove(&0).unwrap_or(0);
         let refused: Vec<String> = numbers.iter().map(|(number, count)| format!("{count} by {number}")).collect();
         println!("{}: {accepted} accepted, {} refused ({})", self.name, numbers.values().sum::<u64>(), refused.join(", "));
-        let never = self.never_compared(tally);
+        if tally.beyond > 0 {
+            println!("{}: {} that the host cannot say", self.name, tally.beyond);
+        }
+        let never = self.never_compared(tally, how);
         if !never.is_empty() {
             println!("{}: never compared, as (number, test): {never:?}", self.name);
         }
@@ -585,39 +649,40 @@ fn jobs(seed: u64, count: u64) -> impl Iterator<Item = Asked> {
 }
 
 /// All calls on one job.
-fn compare_all(asked: &mut Asked, seed: &mut Seed, spoiled: bool, tallies: &mut [Tally]) {
+fn compare_all(asked: &mut Asked, seed: &mut Seed, how: &mut How, tallies: &mut [Tally]) {
     for (call, tally) in CALLS.iter().zip(tallies) {
         asked.aside.clear();
         if call.makes(Test::Field) {
-            for place in places(asked) {
+            // A host is sent the whole file for each place.
+            for place in places(asked).step_by(if how.over() { 40 } else { 1 }) {
                 look_for_field(asked, place, seed);
-                call.compare(asked, true, seed, spoiled, tally);
+                call.compare(asked, true, seed, how, tally);
             }
         } else if [Test::InitialBlock, Test::Object, Test::Block].iter().any(|test| call.makes(*test)) {
             for number in numbers(asked, seed) {
                 asked.number = number;
-                call.compare(asked, true, seed, spoiled, tally);
+                call.compare(asked, true, seed, how, tally);
             }
         } else if call.makes(Test::Groups) {
             for _ in 0..3 {
                 asked.grouping = groups::seeded(seed);
                 asked.aside = asked.grouping.to_string();
                 let lent = asked.grouping.clone();
-                call.compare(asked, true, seed, spoiled, tally);
+                call.compare(asked, true, seed, how, tally);
                 tally.differing += u64::from(lent != asked.grouping);
             }
         } else if call.makes(Test::GroupSize) {
             for size in groups::sizes(asked.head.n.wrapping_add(asked.head.flag % 2), seed) {
                 asked.size = size;
                 asked.aside = format!("groups of {size}");
-                call.compare(asked, true, seed, spoiled, tally);
+                call.compare(asked, true, seed, how, tally);
             }
         } else if call.makes(Test::Truths) {
             for _ in 0..3 {
                 asked.practice = practice::seeded(asked.head.n.wrapping_add(asked.head.flag % 2), seed);
                 asked.aside = asked.practice.to_string();
                 let lent = asked.practice.clone();
-                call.compare(asked, true, seed, spoiled, tally);
+                call.compare(asked, true, seed, how, tally);
                 tally.differing += u64::from(lent != asked.practice);
             }
         } else if call.makes(Test::Pool) {
@@ -625,7 +690,7 @@ fn compare_all(asked: &mut Asked, seed: &mut Seed, spoiled: bool, tallies: &mut 
                 asked.aside = pool.to_string();
                 asked.pool = pool;
                 let lent = (asked.pool.bytes.clone(), asked.pool.lengths.clone());
-                call.compare(asked, true, seed, spoiled, tally);
+                call.compare(asked, true, seed, how, tally);
                 tally.differing += u64::from(lent.0 != asked.pool.bytes || lent.1 != asked.pool.lengths);
             }
         } else if [Test::PartsClaims, Test::FileClaims, Test::SecondClaims].iter().any(|test| call.makes(*test)) {
@@ -637,28 +702,33 @@ fn compare_all(asked: &mut Asked, seed: &mut Seed, spoiled: bool, tallies: &mut 
                 asked.aside = sheet.to_string();
                 asked.sheet = sheet;
                 let lent = asked.sheet.claims.clone();
-                call.compare(asked, true, seed, spoiled, tally);
+                call.compare(asked, true, seed, how, tally);
                 tally.differing += u64::from(lent != asked.sheet.claims);
             }
         } else {
-            call.compare(asked, false, seed, spoiled, tally);
+            call.compare(asked, false, seed, how, tally);
         }
     }
 }
 
 fn main() -> ExitCode {
     let words: Vec<String> = std::env::args().skip(1).collect();
+    let (words, command) = match words.iter().position(|word| word == "over") {
+        Some(at) if at + 1 < words.len() => (&words[..at], Some(&words[at + 1..])),
+        _ => (&words[..], None),
+    };
     let (numbers, spoiled) = match words.split_last() {
-        Some((last, numbers)) if last == "spoiled" => (numbers, true),
-        _ => (&words[..], false),
+        Some((last, numbers)) if last == "spoiled" && command.is_none() => (numbers, true),
+        _ => (words, false),
     };
     let [Some(seed), Some(count)] = numbers.iter().map(|word| word.parse().ok()).collect::<Vec<Option<u64>>>()[..] else {
-        eprintln!("usage: calls SEED COUNT [spoiled], two whole numbers");
+        eprintln!("usage: calls SEED COUNT [spoiled | over COMMAND ..], two whole numbers");
         return ExitCode::from(2);
     };
     if spoiled {
         println!("a bit of what is expected is turned in each comparison; what is told is what was seen:");
     }
+    let mut how = command.map_or(How::Directly { spoiled }, |command| How::Over { host: Host::start(command), waiting: vec![] });
     let mut tallies: Vec<Tally> = CALLS.iter().map(|_| Tally::default()).collect();
     let (mut named, mut changed) = (Named::default(), 0);
     for (mut asked, index) in jobs(seed, count).zip(0..) {
@@ -666,13 +736,14 @@ fn main() -> ExitCode {
         asked.second = editions::made(&asked.bytes, &mut edition);
         asked.names = editions::names(&asked.bytes, &mut edition);
         let lent = (asked.objects.clone(), asked.readings.clone(), asked.bytes.clone(), asked.second.clone(), asked.names.clone());
-        compare_all(&mut asked, &mut Seed::new(seed + 2, index), spoiled, &mut tallies);
+        compare_all(&mut asked, &mut Seed::new(seed + 2, index), &mut how, &mut tallies);
+        how.settle(&mut tallies);
         named.count(&asked);
         changed += u64::from(lent != (asked.objects, asked.readings, asked.bytes, asked.second, asked.names));
     }
-    let passed = CALLS.iter().zip(&tallies).filter(|(call, tally)| call.told(tally)).count();
+    let passed = CALLS.iter().zip(&tallies).filter(|(call, tally)| call.told(tally, &how)).count();
     let mut failed = CALLS.len() - passed;
-    if !named.told() {
+    if !named.told() && !how.over() {
         failed += 1;
         println!("names were never compared as accepted with some flag");
     }
@@ -684,6 +755,9 @@ fn main() -> ExitCode {
     if changed > 0 {
         failed += 1;
         println!("on {changed} jobs a call changed what it was lent to read");
+    }
+    if let How::Over { host, .. } = how {
+        failed += usize::from(!host.ended());
     }
     println!("{passed} passed, {failed} failed");
     if failed == 0 {

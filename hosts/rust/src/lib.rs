@@ -17,6 +17,11 @@
 //! 127 KB (hosts/bench.h has the figure of each, tests/stack measures them); that is measured, not proved. What the functions here add is little, but for [`company`] and
 //! [`opposition`], which hand back a table of 20 KB. A thread of the standard library has 2 MB unless it is told otherwise.
 
+// `unsafe` stands in one module: `forbid` could not be lifted for it.
+#![deny(unsafe_code)]
+#![warn(missing_docs)]
+
+#[allow(unsafe_code)]
 pub mod calls;
 
 use std::fmt;
@@ -35,14 +40,14 @@ pub const FILE_SECOND: usize = 16384;
 /// Bytes enough for the text of every job.
 pub const TEXT: usize = 65536;
 
-// The one table of the reasons: what is named, and by which number of the request's table.
+// The one table of the reasons: what is named, by which number of the request's table, and in which words (README.md).
 macro_rules! reasons {
-    ($($name:ident = $number:literal,)*) => {
+    ($($name:ident = $number:literal $words:literal,)*) => {
         /// Why a call refuses, by the number of the request's table.
         #[derive(Debug, Clone, Copy, PartialEq, Eq)]
         #[non_exhaustive]
         pub enum Reason {
-            $($name,)*
+            $(#[doc = concat!($number, ": ", $words, ".")] $name,)*
             /// A number that this crate has no name for: the archive is of another version.
             Number(u8),
         }
@@ -53,6 +58,18 @@ macro_rules! reasons {
                 match self {
                     $(Reason::$name => $number,)*
                     Reason::Number(number) => number,
+                }
+            }
+
+            /// That number in words.
+            ///
+            /// ```
+            /// assert_eq!(mass_bench::solve(&[]).unwrap_err().reason.words(), "a field's three-byte start or its body runs past the end");
+            /// ```
+            pub fn words(self) -> &'static str {
+                match self {
+                    $(Reason::$name => $words,)*
+                    Reason::Number(_) => "a number of another version of the library",
                 }
             }
 
@@ -67,32 +84,34 @@ macro_rules! reasons {
 }
 
 reasons! {
-    PastTheEnd = 1,
-    WrongTag = 2,
-    WrongLength = 3,
-    BrokenSize = 4,
-    BadObject = 5,
-    Unbalanced = 6,
-    BadRestraint = 7,
-    BadReading = 8,
-    BytesFollow = 9,
-    NoRoom = 10,
-    OneStandard = 11,
-    WrongEdition = 12,
-    OptionalFields = 13,
-    BadGroups = 14,
-    WrongClaims = 15,
-    BadPractice = 16,
-    UnlikeJobs = 17,
-    BadLengths = 18,
+    PastTheEnd = 1 "a field's three-byte start or its body runs past the end",
+    WrongTag = 2 "another tag stands there",
+    WrongLength = 3 "the length is not the one required",
+    BrokenSize = 4 "a size is broken",
+    BadObject = 5 "an object is out of range, is ∞ with flag 0 or 2, or was already in its block",
+    Unbalanced = 6 "the developed design is unbalanced",
+    BadRestraint = 7 "the restraint set is empty or has a bit at v or above, or the sum is out of range",
+    BadReading = 8 "a reading is out of range",
+    BytesFollow = 9 "bytes follow the fourth field",
+    NoRoom = 10 "a lent buffer is too short",
+    OneStandard = 11 "the restraint has one object: a bad standard would shift the whole set and show nowhere",
+    WrongEdition = 12 "the edition is not 2",
+    OptionalFields = 13 "a file of the second edition that is moved to the first has an optional field",
+    BadGroups = 14 "groups: g is below 2 or g·v above 50; there are fewer than two groups, or they are not of one size of at least 2",
+    WrongClaims = 15 "the claims of a sheet are not one for each object",
+    BadPractice = 16 "a true value or the width of practice readings is out of range",
+    UnlikeJobs = 17 "a job that is pooled has another v or beta than job 0",
+    BadLengths = 18 "no jobs to pool, more than 64, or lengths that do not add to the bytes lent",
 }
 
 /// A refusal: its reason, and its place in the file, or, in a call that takes no file, the index in its slice or the number that was asked for, modulo 2^48.
 #[derive(Debug, Clone, Copy, PartialEq, Eq)]
 pub struct Refusal {
+    /// Why.
     pub reason: Reason,
     /// The job that [`pool`] refuses, counted from 0; none where the pool itself is refused, by 18, and in every other call.
     pub job: Option<u8>,
+    /// Where.
     pub place: u64,
 }
 
@@ -138,9 +157,13 @@ pub fn refusal_in(returned: u64) -> Result<(), Refusal> {
 /// ```
 #[derive(Debug, Clone, Copy, PartialEq, Eq)]
 pub struct Head {
+    /// Elements.
     pub n: usize,
+    /// How shifts are added, and whether the fixed object takes part.
     pub flag: usize,
+    /// Objects a side.
     pub p: usize,
+    /// Initial blocks.
     pub m: usize,
 }
 
@@ -161,20 +184,30 @@ pub type Table = [[u64; 50]; 50];
 /// The parameters of a balanced design; `l1` and `l2` are the paper's two lambdas.
 #[derive(Debug, Clone, Copy, PartialEq, Eq)]
 pub struct Parameters {
+    /// Objects.
     pub v: u64,
+    /// Blocks.
     pub b: u64,
+    /// Blocks in which each object stands.
     pub r: u64,
+    /// Objects a side.
     pub p: u64,
+    /// Blocks in which two objects share a side.
     pub l1: u64,
+    /// Blocks in which two objects oppose.
     pub l2: u64,
 }
 
 /// The value of one object: a fraction that is not reduced, its published hundredths of a count, as [`published`] has them, and its f64; and its variance factor.
 #[derive(Debug, Clone, Copy, PartialEq)]
 pub struct Value {
+    /// Of the value.
     pub numerator: i64,
+    /// Of the value and of the factor.
     pub denominator: u64,
+    /// Published, in hundredths of a count.
     pub hundredths: i64,
+    /// The value as an f64.
     pub value: f64,
     /// The numerator of the variance factor, over the same denominator: t - 1 for a member of the restraint, t + 1 for any other object. The factor is the sum of
     /// the squares of the coefficients with which the readings enter the value.
@@ -204,23 +237,29 @@ impl Value {
 /// The deviation of one block: a fraction that is not reduced.
 #[derive(Debug, Clone, Copy, PartialEq, Eq)]
 pub struct Deviation {
+    /// Of the deviation.
     pub numerator: i64,
+    /// Of the deviation: v·beta.
     pub denominator: u64,
 }
 
 /// The spread, in whole hundredths of a count and as an f64.
 #[derive(Debug, Clone, Copy, PartialEq)]
 pub struct Spread {
+    /// In whole hundredths of a count.
     pub hundredths: u64,
+    /// In counts.
     pub value: f64,
 }
 
 /// The spread with what it is made from.
 #[derive(Debug, Clone, Copy, PartialEq)]
 pub struct Spreading {
+    /// v·beta times the sum of squared deviations.
     pub q: u128,
     /// The denominator of every deviation.
     pub vbeta: u64,
+    /// Degrees of freedom.
     pub freedom: u64,
     /// None where there is no degree of freedom.
     pub spread: Option<Spread>,
@@ -229,15 +268,18 @@ pub struct Spreading {
 /// What a job comes to, beside its words, values and deviations.
 #[derive(Debug, Clone, Copy, PartialEq)]
 pub struct Solved {
+    /// Of the design.
     pub parameters: Parameters,
     /// The denominator of every value.
     pub denominator: u64,
+    /// The spread with what it is made from.
     pub spreading: Spreading,
 }
 
 /// A job worked out.
 #[derive(Debug, Clone, PartialEq)]
 pub struct Job {
+    /// What the job comes to.
     pub solved: Solved,
     /// Left word, right word, block after block: one bit an object.
     pub words: Vec<u64>,
@@ -250,24 +292,33 @@ pub struct Job {
 /// A field of a file: where its body starts, and the byte after it.
 #[derive(Debug, Clone, Copy, PartialEq, Eq)]
 pub struct Field {
+    /// Where the body starts.
     pub body: usize,
+    /// The byte after it.
     pub next: usize,
 }
 
 /// What a job file holds: its head, the bytes at which its initial blocks and its readings start, its restraint set with the accepted sum.
 #[derive(Debug, Clone, Copy, PartialEq, Eq)]
 pub struct JobRead {
+    /// The sizes.
     pub head: Head,
+    /// The byte at which the initial blocks start.
     pub blocks_at: usize,
+    /// The byte at which the readings start.
     pub readings_at: usize,
+    /// The restraint set: bit i is object i.
     pub set: u64,
+    /// Its accepted sum.
     pub sum: i64,
 }
 
 /// What a file of the second edition holds: its job, places in this file, and the names of its objects, none or one for each.
 #[derive(Debug, Clone, PartialEq, Eq)]
 pub struct SecondRead {
+    /// The job.
     pub job: JobRead,
+    /// None, or one for each object.
     pub names: Vec<Name>,
 }
 
@@ -726,11 +777,15 @@ pub struct GroupCounts {
 /// The grouped set of a design: its parameters, and its blocks as words and as [`grouped`] takes them.
 #[derive(Debug, Clone, PartialEq, Eq)]
 pub struct GroupedSet {
+    /// Objects.
     pub v: usize,
+    /// Blocks.
     pub b: usize,
     /// In how many blocks each object stands.
     pub r: u64,
+    /// Objects a side.
     pub p: usize,
+    /// How often two objects meet.
     pub counts: GroupCounts,
     /// Left word, right word, block after block: one bit an object.
     pub words: Vec<u64>,
@@ -788,6 +843,7 @@ fn group_counts([l11, l21, l12, l22]: [u64; 4]) -> GroupCounts {
 /// What another laboratory claims of a job: for each object its published hundredths of a count; and the spread, or that there is none.
 #[derive(Debug, Clone, PartialEq)]
 pub struct Sheet {
+    /// What is claimed for each object.
     pub hundredths: Vec<i64>,
     /// None is right only where the job has no degree of freedom.
     pub spread: Option<ClaimedSpread>,
@@ -796,13 +852,16 @@ pub struct Sheet {
 /// A claimed spread in counts, with its degrees of freedom. It is right where it equals the job's own f64 as a number: no NaN does, -0.0 equals 0.0.
 #[derive(Debug, Clone, Copy, PartialEq)]
 pub struct ClaimedSpread {
+    /// In counts.
     pub value: f64,
+    /// Degrees of freedom.
     pub freedom: u64,
 }
 
 /// What becomes of a sheet. That it differs is an answer and no refusal.
 #[derive(Debug, Clone, Copy, PartialEq, Eq)]
 pub enum Checked {
+    /// Every claim is right.
     Agrees,
     /// The first object whose claim differs, whatever else does.
     Object(usize),
@@ -866,7 +925,9 @@ pub fn check_second(bytes: &[u8], sheet: &Sheet) -> Result<Checked, Refusal> {
 /// What practice readings are made from: the true value of each object, within 3,000 counts of 0; any start number for the noise; and its width, 0 to 8 bits.
 #[derive(Debug, Clone, PartialEq, Eq)]
 pub struct Practice {
+    /// The true value of each object.
     pub truths: Vec<i32>,
+    /// The start number of the noise.
     pub start: u32,
     /// With 0 there is no noise: the exact values of the practice job are the true ones.
     pub width: usize,

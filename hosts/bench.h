@@ -57,7 +57,7 @@
  * Calls may be made from several threads at once, each with its own buffers to write: the library keeps nothing between calls.
  * Of the stack, which no proof speaks of, each takes at most this, in KB of 1,000 bytes, with what is passed to it:
  *   121 KB | bench_listing, bench_listing_second, bench_check_file, bench_check_second, bench_pool
- *   115 KB | bench_values, bench_value_of, bench_published, bench_deviation_of, bench_q, bench_spread, bench_check_parts
+ *   115 KB | bench_values, bench_value_of, bench_uncertainty_of, bench_published, bench_deviation_of, bench_q, bench_spread, bench_check_parts
  *   108 KB | bench_practice_file
  *   104 KB | bench_deviations, bench_practice
  *    89 KB | bench_solve, bench_solve_second, bench_read, bench_read_second, bench_to_second, bench_to_first
@@ -134,6 +134,15 @@ enum {
     BENCH_VALUE_REAL = 0,        /* numerator / denominator */
     BENCH_VALUE_REAL_FACTOR = 1, /* factor / denominator */
     BENCH_VALUE_REAL_SLOTS = 2
+};
+
+/* bench_uncertainty_of: `answer`, then `real`. */
+enum {
+    BENCH_UNCERTAINTY_HUNDREDTHS = 0, /* hundredths of a count, 0 where none is stated */
+    BENCH_UNCERTAINTY_STATED = 1,     /* 1 where it is stated, 0 where there is no degree of freedom */
+    BENCH_UNCERTAINTY_SLOTS = 2,
+    BENCH_UNCERTAINTY_REAL = 0, /* hundredths / 100 */
+    BENCH_UNCERTAINTY_REAL_SLOTS = 1
 };
 
 /* bench_deviation_of: `signed_slots`, then `answer`. bench_total: `signed_slots`. The sums of squares and bench_q: `answer`,
@@ -257,6 +266,14 @@ uint64_t bench_value_of(size_t n, size_t flag, size_t p, size_t m, const uint8_t
                         int64_t *signed_slots, size_t signed_slots_length,
                         uint64_t *answer, size_t answer_length,
                         double *real, size_t real_length);
+
+/* The standard uncertainty of one object: the least whole number u of hundredths of a count that is not below 100 times the exact standard deviation of
+ * one reading times the root of the variance factor, so that it is never understated: u*u*(t*v*beta)*(v*beta)*f is at least 10,000*Q*factor. None is
+ * stated where f is 0. Refused as bench_value_of is. */
+uint64_t bench_uncertainty_of(size_t n, size_t flag, size_t p, size_t m, const uint8_t *blocks, size_t blocks_length,
+                              const int32_t *readings, size_t readings_length, uint64_t set, int64_t sum, size_t object,
+                              uint64_t *answer, size_t answer_length,
+                              double *real, size_t real_length);
 
 /* The v published hundredths of a count. Members of the restraint: the whole number at or below 100 times the value; what then lacks
  * to 100*sum is given out one hundredth each, to the largest fractional parts first, the lowest object first among equals. So the

@@ -244,6 +244,13 @@ class Value(NamedTuple):
         return None if spread is None else spread.real * self.real_factor**0.5
 
 
+class Uncertainty(NamedTuple):
+    """The standard uncertainty of a value, in whole hundredths of a count and as a float."""
+
+    hundredths: int
+    real: float
+
+
 class Deviation(NamedTuple):
     """The deviation of one block, and the denominator over which a listing writes it, not reduced."""
 
@@ -592,6 +599,19 @@ def value_of(head: Head, blocks: Wholes, readings: Wholes, restraint: Iterable[i
     (Fraction(73, 10), 730, 7.3, Fraction(1, 10))
     """
     return _value_of(_job(head, blocks, readings, restraint, accepted_sum), object)
+
+
+def uncertainty_of(
+    head: Head, blocks: Wholes, readings: Wholes, restraint: Iterable[int], accepted_sum: int, object: int
+) -> Optional[Uncertainty]:
+    """The standard uncertainty of one object, which a certificate states, never understated; None where there is no degree of freedom.
+
+    >>> uncertainty_of(Head(5, 0, 2, 1), [1, 4, 2, 3], [11, -3, 4, 1, -8], {0, 1}, 7, 1)
+    Uncertainty(hundredths=71, real=0.71)
+    """
+    answer, real = _room(_U64, 2), _room(ctypes.c_double, 1)
+    _call("bench_uncertainty_of", *_job(head, blocks, readings, restraint, accepted_sum), _number("object", _SIZE, object), answer, real)
+    return Uncertainty(answer[0], real[0]) if answer[1] else None
 
 
 def published(head: Head, blocks: Wholes, readings: Wholes, restraint: Iterable[int], accepted_sum: int) -> Tuple[int, ...]:

@@ -17,6 +17,7 @@
 
 mod asked;
 mod balanced;
+mod certificate;
 mod coefficients;
 mod compare;
 mod damage;
@@ -184,6 +185,14 @@ const CALLS: &[Call] = &[
             let factor = asked.coefficients().factor(asked.number);
             let (wholes, fractions) = ([denominator, factor], [(numerator, denominator), (factor, denominator)]);
             vec![whole(&[numerator, results.hundredths[asked.number]]), whole(&wholes), reals(&fractions)]
+        }
+    ),
+    call!(
+        bench_uncertainty_of(head blocks readings restraint number; answer real),
+        [DESIGN, READINGS, BALANCE, RESTRAINT, &[Test::Object]],
+        |asked| {
+            let hundredths = certificate::uncertainty(&asked.solved().results, asked.coefficients().factor(asked.number));
+            vec![whole(&[hundredths.unwrap_or(0), hundredths.is_some().into()]), real(hundredths.unwrap_or(0), 100)]
         }
     ),
     call!(bench_published(head blocks readings restraint; hundredths), [DESIGN, READINGS, BALANCE, RESTRAINT], |asked| {

@@ -151,6 +151,7 @@ const CALLS: &[Call] = rows! { job rooms:
     refusal(head, &job.blocks, &job.readings, job.set, job.sum);
     values(head, &job.blocks, &job.readings, job.set, job.sum, &mut rooms.values);
     value_of(head, &job.blocks, &job.readings, job.set, job.sum, job.last_object, &mut rooms.signed, &mut rooms.answer, &mut rooms.real);
+    uncertainty_of(head, &job.blocks, &job.readings, job.set, job.sum, job.last_object, &mut rooms.answer, &mut rooms.real);
     published(head, &job.blocks, &job.readings, job.set, job.sum, &mut rooms.values);
     deviations(head, &job.blocks, &job.readings, &mut rooms.deviations);
     deviation_of(head, &job.blocks, &job.readings, job.last_block, &mut rooms.signed, &mut rooms.answer);

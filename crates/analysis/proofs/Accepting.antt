@@ -49,7 +49,7 @@ use Rattle.laws.proofs.Matrix.{difference-signs}
 use Rattle.laws.proofs.Analysis.{vbeta-some, q-nonneg}
 use Rattle.laws.proofs.Sizes.{vbeta-most, squared-readings-most, q-most}
 use Rattle.arithmetic.specs.Hundredths.{spreadingFrom, hundredthsFrom}
-use Rattle.arithmetic.proofs.Spreads.{Ranged, hundredths-is}
+use Rattle.arithmetic.proofs.Spreads.{hundredths-is, spread-range, q-words}
 use Rattle.weighing.proofs.SquareSums.{readings-squares}
 use Rattle.weighing.specs.Developed.{totalIn}
 use Rattle.weighing.proofs.Developing.{Laid, laid-squares}
@@ -127,15 +127,9 @@ module _ (h : Head) (d : List ℕ) (s : Sound h d) (b : balanced h d ≡ true) (
   spreading-of : Readings h y → spreadingFrom (wide (qOf h d y)) (vbeta h d) (freedom h) ≡ spreadingOf h d y
   unfolding spreadHundredthsOf
   spreading-of r =
-      let range : Ranged (qOf h d y) (vbeta h d) (freedom h) = record {
-        q-most = omega (arith, q-most h d s y r b);
-        vbeta-some = vbeta-some h d s b;
-        vbeta-most = vbeta-most h d s b;
-        freedom-most = omega (arith, s .sizes .blocks-most, s .sizes .n-least);
-      } in
-      let same : value (wide (qOf h d y)) ≡ qOf h d y = exact (qOf h d y) (omega (arith, q-most h d s y r b)) refl in
       let k : hundredthsFrom (value (wide (qOf h d y))) (vbeta h d) (freedom h) ≡ spreadHundredths (qOf h d y) (vbeta h d) (freedom h) =
-      ap (λ (n : ℕ). hundredthsFrom n (vbeta h d) (freedom h)) same ∙ hundredths-is (qOf h d y) (vbeta h d) (freedom h) range in
+      ap (λ (n : ℕ). hundredthsFrom n (vbeta h d) (freedom h)) (q-words h d s b y r)
+      ∙ hundredths-is (qOf h d y) (vbeta h d) (freedom h) (spread-range h d s b y r) in
       λ j. record { q = wide (qOf h d y); vbeta = vbeta h d; freedom = freedom h; hundredths = k j; spread = spreadOf (k j) (freedom h) }
 
   module _ (r : Readings h y) (vb readings totals : ℕ) (f : vb ≡ vbeta h d) (m : readings ≡ natAbs (squaredReadings h y))

@@ -28,6 +28,12 @@ use Rattle.analysis.proofs.spread.q.Reads as q-reads
 use Rattle.analysis.proofs.spread.spread as spread
 use Rattle.analysis.proofs.spread.spread.Kinds as spread-kinds
 use Rattle.analysis.proofs.spread.spread.Reads as spread-reads
+use Rattle.analysis.proofs.uncertainty.uncertainty_of as uncertainty-of
+use Rattle.analysis.proofs.uncertainty.uncertainty_of.Kinds as uncertainty-of-kinds
+use Rattle.analysis.proofs.uncertainty.uncertainty_of.Reads as uncertainty-of-reads
+use Rattle.analysis.proofs.uncertainty.uncertainty_in as uncertainty-in
+use Rattle.analysis.proofs.uncertainty.uncertainty_in.Kinds as uncertainty-in-kinds
+use Rattle.analysis.proofs.uncertainty.uncertainty_in.Reads as uncertainty-in-reads
 use Rattle.analysis.proofs.values.values as values
 use Rattle.analysis.proofs.values.values.Kinds as values-kinds
 use Rattle.analysis.proofs.values.values.Reads as values-reads
@@ -88,6 +94,20 @@ module _ (κs : Lfts 2) (a : ArgsD spread.signature κs) (r q : ResD spread.sign
   pub spread-determined : spread-reads.Post κs a r s → spread-reads.Post κs a q t →
       r ≡ q
   spread-determined p e = p ∙ sym e
+
+-- `uncertainty_of`: the answer
+module _ (κs : Lfts 2) (a : ArgsD uncertainty-of.signature κs) (r q : ResD uncertainty-of.signature κs)
+    (s t : AtExit (endedOf 2 uncertainty-of-kinds.ps uncertainty-of-kinds.r) κs) where
+  pub uncertainty-of-determined : uncertainty-of-reads.Post κs a r s → uncertainty-of-reads.Post κs a q t →
+      r ≡ q
+  uncertainty-of-determined p e = p ∙ sym e
+
+-- `uncertainty_in`: the answer
+module _ (κs : Lfts 0) (a : ArgsD uncertainty-in.signature κs) (r q : ResD uncertainty-in.signature κs)
+    (s t : AtExit (endedOf 0 uncertainty-in-kinds.ps uncertainty-in-kinds.r) κs) where
+  pub uncertainty-in-determined : uncertainty-in-reads.Post κs a r s → uncertainty-in-reads.Post κs a q t →
+      r ≡ q
+  uncertainty-in-determined p e = p ∙ sym e
 
 -- `values`: the answer, `values`
 module _ (κs : Lfts 3) (a : ArgsD values.signature κs) (r q : ResD values.signature κs)

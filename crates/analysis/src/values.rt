@@ -18,8 +18,7 @@ ghost use Prim.Native.Nat.{_^_, _<_, _≤_};
 ghost use lib.IntN.{natAbs};
 ghost use lib.ListN.{length};
 ghost use Rattle.algebra.specs.Buffers.{over};
-ghost use Rattle.algebra.specs.Ranges.{sumℕ};
-ghost use Rattle.meaning.specs.Analysis.{member, members, denominator};
+ghost use Rattle.meaning.specs.Analysis.{members, denominator};
 ghost use Rattle.meaning.specs.Refusals.{sumLimit};
 ghost use Rattle.meaning.specs.Calls.{valuesVerdict, valuesAfter, valueAnswer};
 ghost use Rattle.analysis.specs.Worked.{totalAt, Totalled, Held, overSet, numeratorIn, factorIn};
@@ -96,8 +95,7 @@ pub fn value_of(
 }
 
 // The variance factor of an object, over the denominator of its value: t - 1 where the restraint set holds it, t + 1 where it does not.
-fn factor_of(set: u64, object: usize) -> u64
-    requires { ⌜ 0 < sumℕ 64 (member set) ⌝ }
+pub(crate) fn factor_of(set: u64, object: usize) -> u64
     ensures { λ r. ⌜ r ≡ factorIn set object ⌝ }
 {
     let t = ones(set);

@@ -67,6 +67,9 @@ use Rattle.api.proofs.jobs.bench_values.Reads as bench-values-reads
 use Rattle.api.proofs.jobs.bench_value_of as bench-value-of
 use Rattle.api.proofs.jobs.bench_value_of.Kinds as bench-value-of-kinds
 use Rattle.api.proofs.jobs.bench_value_of.Reads as bench-value-of-reads
+use Rattle.api.proofs.jobs.bench_uncertainty_of as bench-uncertainty-of
+use Rattle.api.proofs.jobs.bench_uncertainty_of.Kinds as bench-uncertainty-of-kinds
+use Rattle.api.proofs.jobs.bench_uncertainty_of.Reads as bench-uncertainty-of-reads
 use Rattle.api.proofs.jobs.bench_published as bench-published
 use Rattle.api.proofs.jobs.bench_published.Kinds as bench-published-kinds
 use Rattle.api.proofs.jobs.bench_published.Reads as bench-published-reads
@@ -295,6 +298,15 @@ module _ (κs : Lfts 5) (a : ArgsD bench-value-of.signature κs) (r q : ResD ben
       × (now (s .1 .1 .1 .1 .1 .1 .1 .1 .1 .1 .0) ≡ now (t .1 .1 .1 .1 .1 .1 .1 .1 .1 .1 .0))
       × (now (s .1 .1 .1 .1 .1 .1 .1 .1 .1 .1 .1 .0) ≡ now (t .1 .1 .1 .1 .1 .1 .1 .1 .1 .1 .1 .0))
   bench-value-of-determined p e = (p .0 ∙ sym (e .0), p .1 .0 ∙ sym (e .1 .0), p .1 .1 .0 ∙ sym (e .1 .1 .0), p .1 .1 .1 ∙ sym (e .1 .1 .1))
+
+-- `bench_uncertainty_of`: the answer, `answer`, `real`
+module _ (κs : Lfts 4) (a : ArgsD bench-uncertainty-of.signature κs) (r q : ResD bench-uncertainty-of.signature κs)
+    (s t : AtExit (endedOf 4 bench-uncertainty-of-kinds.ps bench-uncertainty-of-kinds.r) κs) where
+  pub bench-uncertainty-of-determined : bench-uncertainty-of-reads.Post κs a r s → bench-uncertainty-of-reads.Post κs a q t →
+      (r ≡ q)
+      × (now (s .1 .1 .1 .1 .1 .1 .1 .1 .1 .0) ≡ now (t .1 .1 .1 .1 .1 .1 .1 .1 .1 .0))
+      × (now (s .1 .1 .1 .1 .1 .1 .1 .1 .1 .1 .0) ≡ now (t .1 .1 .1 .1 .1 .1 .1 .1 .1 .1 .0))
+  bench-uncertainty-of-determined p e = (p .0 ∙ sym (e .0), p .1 .0 ∙ sym (e .1 .0), p .1 .1 ∙ sym (e .1 .1))
 
 -- `bench_published`: the answer, `hundredths`
 module _ (κs : Lfts 3) (a : ArgsD bench-published.signature κs) (r q : ResD bench-published.signature κs)

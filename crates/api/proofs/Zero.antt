@@ -66,6 +66,7 @@ use Rattle.meaning.specs.File.{
 }
 use Rattle.meaning.specs.Writing.{fileLength, writeVerdict}
 use Rattle.meaning.specs.Text.{textOf}
+use Rattle.meaning.specs.Certificate.{uncertaintyAnswer}
 use Rattle.meaning.specs.Edition2.{
   fileLimit2,
   edition,
@@ -88,7 +89,7 @@ use Rattle.meaning.specs.Edition2.{
   toFirstVerdict,
 }
 use Rattle.meaning.specs.Practice.{near, widthLimit, practised, trueSum, practiceVerdict, practiceFileVerdict}
-use Rattle.slots.specs.Answers.{tableCall, judgedCall, totalCall, sumCall, valueCall, deviationCall, spreadCall, solvedCall}
+use Rattle.slots.specs.Answers.{tableCall, judgedCall, totalCall, sumCall, valueCall, uncertaintyCall, deviationCall, spreadCall, solvedCall}
 use Rattle.slots.specs.Answers.{fieldCall, readCall, secondCall, writtenCall, listedCall}
 use Rattle.laws.proofs.Chains.{refused-is-not}
 use Rattle.slots.proofs.Numbered.{Numbered, numbered-test, numbered-then}
@@ -212,13 +213,22 @@ module _ (h : Head) (d : List ℕ) (y : List ℤ) where
     unfolding valuesVerdict
     values-numbered len = numbered-then job-numbered (room-numbered len (objects h))
 
-    pub value-numbered : (i : ℕ) (signed : List ℤ) (answer : List ℕ) (real : List Float) → Numbered (valueCall (valueAnswer h d y w M i) signed answer real)
-    unfolding valueCall valueVerdict
-    value-numbered i signed answer real =
+    value-tests-numbered : (i : ℕ) → Numbered (valueVerdict h d y w M i)
+    unfolding valueVerdict
+    value-tests-numbered i =
         let object = numbered-then listed-numbered (exists-numbered i (objects h)) in
-        let tests = numbered-then (numbered-then (numbered-then object (balance-numbered h d)) (restraint-numbered h w M)) (reach-numbered y) in
-        let slots = numbered-then (numbered-then tests (room-numbered (length signed) 2)) (room-numbered (length answer) 2) in
+        numbered-then (numbered-then (numbered-then object (balance-numbered h d)) (restraint-numbered h w M)) (reach-numbered y)
+
+    pub value-numbered : (i : ℕ) (signed : List ℤ) (answer : List ℕ) (real : List Float) → Numbered (valueCall (valueAnswer h d y w M i) signed answer real)
+    unfolding valueCall
+    value-numbered i signed answer real =
+        let slots = numbered-then (numbered-then (value-tests-numbered i) (room-numbered (length signed) 2)) (room-numbered (length answer) 2) in
         numbered-then slots (room-numbered (length real) 2)
+
+    pub uncertainty-numbered : (i : ℕ) (answer : List ℕ) (real : List Float) → Numbered (uncertaintyCall (uncertaintyAnswer h d y w M i) answer real)
+    unfolding uncertaintyCall
+    uncertainty-numbered i answer real =
+        numbered-then (numbered-then (value-tests-numbered i) (room-numbered (length answer) 2)) (room-numbered (length real) 1)
 
     pub write-numbered : (out answer : List ℕ) → Numbered (writtenCall (fileWritten h d y w M out) answer)
     unfolding writtenCall writeVerdict

@@ -1,11 +1,13 @@
-// Calls on whole jobs: their tests, the values of all objects and of one, the published column, and everything at once.
+// Calls on whole jobs: their tests, the values of all objects and of one, its standard uncertainty, the published column, and everything at once.
 use analysis::analyse;
 use analysis::publishing::published;
+use analysis::uncertainty::uncertainty_of;
 use analysis::values::value_of;
 use analysis::values::values as numerators;
 use judging::refusal;
 use records::Head;
 use slots::lay_solved;
+use slots::lay_uncertainty;
 use slots::lay_value;
 use slots::solved_room;
 use slots::told;
@@ -14,7 +16,9 @@ use verdicts::is_refused;
 ghost use mathlib.Core.Path.{_≡_};
 ghost use lib.ListN.{length};
 ghost use Rattle.meaning.specs.Calls.{jobVerdict, valuesVerdict, publishedAfter, valueAnswer};
+ghost use Rattle.meaning.specs.Certificate.{uncertaintyAnswer};
 ghost use Rattle.slots.specs.Told.{told};
+ghost use Rattle.slots.specs.Answers.{uncertaintyCall, uncertaintyLaid, uncertaintyReal};
 ghost use Rattle.slots.specs.Answers.{valueCall, valueSigned, valueLaid, valueReal, solvedLaid, solvedReal};
 ghost use Rattle.api.specs.Heads.{headFrom};
 ghost use Rattle.api.specs.Rooms.{valueNumerators};
@@ -87,6 +91,36 @@ pub extern "C" fn bench_value_of(
     lay_value(
         value_of(head, blocks, readings, set, sum, object),
         signed,
+        answer,
+        real,
+    )
+}
+
+// The standard uncertainty of one object.
+#[no_mangle]
+pub extern "C" fn bench_uncertainty_of(
+    n: usize,
+    flag: usize,
+    p: usize,
+    m: usize,
+    blocks: &[u8],
+    readings: &[i32],
+    set: u64,
+    sum: i64,
+    object: usize,
+    answer: &mut [u64],
+    real: &mut [f64],
+) -> u64
+    ensures { λ r. ⌜ r ≡ told (uncertaintyCall (uncertaintyAnswer (headFrom n flag p m) (now (blocks .entry)) (now (readings .entry)) set sum object)
+        (now (answer .entry)) (now (real .entry))) ⌝ }
+    ensures { λ _. ⌜ now (answer .exit) ≡ uncertaintyLaid (uncertaintyAnswer (headFrom n flag p m) (now (blocks .entry)) (now (readings .entry)) set sum object)
+        (now (answer .entry)) (now (real .entry)) ⌝ }
+    ensures { λ _. ⌜ now (real .exit) ≡ uncertaintyReal (uncertaintyAnswer (headFrom n flag p m) (now (blocks .entry)) (now (readings .entry)) set sum object)
+        (now (answer .entry)) (now (real .entry)) ⌝ }
+{
+    let head = Head { n, flag, p, m };
+    lay_uncertainty(
+        uncertainty_of(head, blocks, readings, set, sum, object),
         answer,
         real,
     )

@@ -24,6 +24,9 @@ use Rattle.arithmetic.proofs.rounding.hundredths_part.Reads as hundredt
 use Rattle.arithmetic.proofs.spread.spread_from as spread-from
 use Rattle.arithmetic.proofs.spread.spread_from.Kinds as spread-from-kinds
 use Rattle.arithmetic.proofs.spread.spread_from.Reads as spread-from-reads
+use Rattle.arithmetic.proofs.uncertainty.uncertainty_from as uncertainty-from
+use Rattle.arithmetic.proofs.uncertainty.uncertainty_from.Kinds as uncertainty-from-kinds
+use Rattle.arithmetic.proofs.uncertainty.uncertainty_from.Reads as uncertainty-from-reads
 use Rattle.arithmetic.proofs.wide.product as product
 use Rattle.arithmetic.proofs.wide.product.Kinds as product-kinds
 use Rattle.arithmetic.proofs.wide.product.Reads as product-reads
@@ -87,6 +90,13 @@ module _ (κs : Lfts 0) (a : ArgsD spread-from.signature κs) (r q : ResD spread
   pub spread-from-determined : spread-from-reads.Post κs a r s → spread-from-reads.Post κs a q t →
       r ≡ q
   spread-from-determined p e = p ∙ sym e
+
+-- `uncertainty_from`: the answer
+module _ (κs : Lfts 0) (a : ArgsD uncertainty-from.signature κs) (r q : ResD uncertainty-from.signature κs)
+    (s t : AtExit (endedOf 0 uncertainty-from-kinds.ps uncertainty-from-kinds.r) κs) where
+  pub uncertainty-from-determined : uncertainty-from-reads.Post κs a r s → uncertainty-from-reads.Post κs a q t →
+      r ≡ q
+  uncertainty-from-determined p e = p ∙ sym e
 
 -- `product`: the answer
 module _ (κs : Lfts 0) (a : ArgsD product.signature κs) (r q : ResD product.signature κs)

@@ -11,7 +11,7 @@ use Rattle.records.specs.declared.Wide.{Wide}
 use Rattle.arithmetic.specs.declared.wide.Divided.{Divided}
 use Rattle.meaning.specs.Wide.{value, wide, wideZero}
 use Rattle.arithmetic.specs.Division.{divided}
-use Rattle.arithmetic.proofs.Words.{words, value-wide, value-most, fewer}
+use Rattle.arithmetic.proofs.Words.{words, are-words, value-wide, value-most, fewer}
 
 -- what is left of the higher part stands before the lower part
 module _ (b h l d : ℕ) (some : 0 < d) where
@@ -111,6 +111,10 @@ module _ {r : Divided} (x : Wide) (d : ℕ) (f : x .high < 2 ^ 64) (g : x .low <
   -- its quotient
   pub quotient-value : value (r .quotient) ≡ value x / d
   quotient-value = ap (λ (z : Divided). value (z .quotient)) inside ∙ value-wide (value x / d) (lt-of-le-of-lt (div-le-self (value x) d) (value-most x f g))
+
+  -- whose two words are words
+  pub quotient-words : (r .quotient .high < 2 ^ 64) × (r .quotient .low < 2 ^ 64)
+  quotient-words = are-words (value x / d) (ap (λ (z : Divided). z .quotient) inside)
 
   -- and its rest
   pub rest-value : r .rest ≡ value x % d

@@ -5,5 +5,6 @@ pub mod Floats
 pub mod Words
 pub mod Division
 pub mod Spreads
+pub mod Uncertainties
 pub mod Examples
 pub mod Determined

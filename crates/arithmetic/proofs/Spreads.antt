@@ -8,19 +8,26 @@ use native.Mathlib.Omega.{arith}
 use borrow.Author.Tests.{ltb-true, lt-ltb, leb-true, le-leb}
 use lib.Dec.{ltb, leb, lit<}
 use Rattle.algebra.proofs.Tests.{and-left, and-right, and-both}
-use Rattle.meaning.specs.Analysis.{root, spreadHundredths}
+use Rattle.meaning.specs.Design.{balanced}
+use Rattle.meaning.specs.Analysis.{root, spreadHundredths, qOf, vbeta, freedom}
+use mathlib.Core.List.{List}
 use lib.Ieee.{Float}
-use lib.IntN.{pos}
+use lib.IntN.{ℤ, pos}
+use Rattle.records.specs.declared.Head.{Head}
 use Rattle.records.specs.declared.Spreading.{Spreading}
 use Rattle.records.specs.declared.Wide.{Wide}
 use Rattle.records.specs.declared.Spread.{Spread}
 use Rattle.records.specs.declared.Spread.the-variants.{Of}
 use Rattle.meaning.specs.Publishing.{spreadOf}
-use Rattle.meaning.specs.Wide.{value}
+use Rattle.meaning.specs.Wide.{value, wide}
 use Rattle.arithmetic.specs.Quotient.{quotientOf}
 use Rattle.arithmetic.proofs.Exact.{quotient-is}
 use Rattle.arithmetic.specs.Hundredths.{ranged, hundredthsFrom, spreadingFrom}
 use Rattle.laws.proofs.Rounding.{root-largest}
+use Rattle.laws.proofs.Chains.{Sound, Readings}
+use Rattle.laws.proofs.Analysis.{vbeta-some}
+use Rattle.laws.proofs.Sizes.{vbeta-most, q-most}
+use Rattle.arithmetic.proofs.Words.{exact}
 
 -- ---- the range
 
@@ -101,7 +108,7 @@ unfolding hundredthsFrom
 hundredths-none q s f e = rw e
 
 -- a number whose square is below that of another is below it
-root-lt : (a b : ℕ) → a * a < b * b → a < b
+pub root-lt : (a b : ℕ) → a * a < b * b → a < b
 root-lt a b h = by (decLe b a)
   where
     by : Dec (b ≤ a) → a < b
@@ -139,3 +146,19 @@ some-spread k (suc f) x h l e = ap (λ (y : Float). Of y (suc f)) (e ∙ quotien
 pub spreading-is : (q : Wide) (s f k : ℕ) (x : Spread) → k ≡ hundredthsFrom (value q) s f → x ≡ spreadOf k f
     → _≡_ {A = Spreading} (record { q = q; vbeta = s; freedom = f; hundredths = k; spread = x }) (spreadingFrom q s f)
 spreading-is q s f k x e g = λ j. record { q = q; vbeta = s; freedom = f; hundredths = e j; spread = (g ∙ ap (λ (k : ℕ). spreadOf k f) e) j }
+
+-- ---- an accepted job
+
+module _ (h : Head) (d : List ℕ) (s : Sound h d) (b : balanced h d ≡ true) (y : List ℤ) (r : Readings h y) where
+  -- the numbers that its spread is made from are in their range
+  pub spread-range : Ranged (qOf h d y) (vbeta h d) (freedom h)
+  spread-range = record {
+    q-most = omega (arith, q-most h d s y r b);
+    vbeta-some = vbeta-some h d s b;
+    vbeta-most = vbeta-most h d s b;
+    freedom-most = omega (arith, s .sizes .blocks-most, s .sizes .n-least);
+  }
+
+  -- and Q is what its two words mean
+  pub q-words : value (wide (qOf h d y)) ≡ qOf h d y
+  q-words = exact (qOf h d y) (omega (arith, q-most h d s y r b)) refl

@@ -4,6 +4,7 @@
 mod quotient;
 mod rounding;
 mod spread;
+mod uncertainty;
 mod wide;
 
 pub use quotient::size;
@@ -12,6 +13,7 @@ pub use rounding::hundredths;
 pub use rounding::hundredths_below;
 pub use rounding::hundredths_part;
 pub use spread::spread_from;
+pub use uncertainty::uncertainty_from;
 pub use wide::Divided;
 pub use wide::add;
 pub use wide::add_square;

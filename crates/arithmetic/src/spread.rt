@@ -58,7 +58,7 @@ fn hundredths_from(q: Wide, vbeta: u64, freedom: u64) -> u64
 }
 
 // Whether the three numbers are in a range that every accepted job and 64 of them pooled keep.
-fn is_ranged(q: Wide, vbeta: u64, freedom: u64) -> bool
+pub(crate) fn is_ranged(q: Wide, vbeta: u64, freedom: u64) -> bool
     ensures { λ r. ⌜ r ≡ ranged (value q) vbeta freedom ⌝ }
 {
     if 524288 <= q.high {

@@ -5,6 +5,8 @@
 --     demand-2, demand-2-calls       specs/Demand2, specs/Answers    accepted exactly if balanced, and the paper's fractions
 --     demand-3, demand-3-calls       specs/Demand3                   the exact values are best, and the published ones near
 --     uncertainty-per-object         specs/Uncertainty               a variance factor is the sum of squared coefficients (02, P8)
+--     standard-uncertainty, -calls   specs/Certificate               what a certificate states of a weight: never understated, and the least
+--     certificates                   specs/Certificate               the certificate of every file, and that its standards add to M
 --     writing-jobs, writing-files    specs/Writing                   each accepted job has exactly one file (02, P1)
 --     designs-over-fields, the-fields    specs/Fields                what the addition of a field is, and what is refused (02, P4)
 --     files-of-the-first-edition, files-of-the-second-edition    specs/Edition2    moved from one edition to the other (02, P7)
@@ -42,6 +44,7 @@ use Rattle.demands.specs.Answers.{Demand2Calls}
 use Rattle.demands.specs.Demand3.{Demand3, Demand3Calls}
 use Rattle.demands.specs.Fields.{OverFields, TheFields}
 use Rattle.demands.specs.Uncertainty.{UncertaintyPerObject, UncertaintyPerObjectCalls}
+use Rattle.demands.specs.Certificate.{StandardUncertaintyOf, StandardUncertaintyCalls, Certificates}
 use Rattle.demands.specs.Writing.{WritingJobs, WritingFiles}
 use Rattle.demands.specs.Edition2.{FirstEdition, SecondEdition}
 use Rattle.demands.specs.SecondCalls.{SecondCalls, WritingSecond}
@@ -59,6 +62,7 @@ use Rattle.demands.proofs.Whole.{q-in-full}
 use Rattle.demands.proofs.Published.{least-squares}
 use Rattle.demands.proofs.Fields.{over-fields, listed-fields}
 use Rattle.demands.proofs.Uncertainty.{uncertainty}
+use Rattle.demands.proofs.Certificate as certifying
 use Rattle.demands.proofs.Writing.{jobs-written, files-written}
 use Rattle.demands.proofs.Edition2.{first-edition, second-edition}
 use Rattle.demands.proofs.SecondCalls.{second-calls, second-written}
@@ -131,6 +135,15 @@ uncertainty-per-object s e = uncertainty (jobIn s) (file-job s e .1)
 
 pub uncertainty-per-object-calls : (j : Job) → UncertaintyPerObjectCalls j
 uncertainty-per-object-calls = uncertainty
+
+pub standard-uncertainty : (s : List ℕ) → StandardUncertaintyOf s
+standard-uncertainty s e = certifying.standard-uncertainty (jobIn s) (file-job s e .1)
+
+pub standard-uncertainty-calls : (j : Job) → StandardUncertaintyCalls j
+standard-uncertainty-calls j = (certifying.standard-uncertainty j, certifying.uncertainty-refused j)
+
+pub certificates : (s : List ℕ) → Certificates s
+certificates = certifying.certificates-of
 
 pub writing-jobs : (j : Job) → WritingJobs j
 writing-jobs = jobs-written

@@ -11,6 +11,7 @@ pub mod Demand2
 pub mod Answers
 pub mod Demand3
 pub mod Uncertainty
+pub mod Certificate
 pub mod Writing
 pub mod Fields
 pub mod Edition2

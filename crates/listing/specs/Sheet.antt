@@ -1,14 +1,11 @@
--- The text of what was worked out, from the numbers in hand, for any numbers; and a text written into lent room. Assumes nothing.
+-- The text of what was worked out, from the numbers in hand, for any numbers. Assumes nothing.
 use Prim.Native.Nat.{ℕ}
 use mathlib.Core.List.{List, _++_}
 use lib.IntN.{ℤ, pos}
-use lib.ListN.{take, drop, length, getD}
-use Rattle.records.specs.declared.Listed.{Listed}
+use lib.ListN.{take, length, getD}
 use Rattle.records.specs.declared.Solved.{Solved}
 use Rattle.records.specs.declared.Verdict.{Verdict}
 use Rattle.records.specs.declared.Verdict.the-variants.{Accepted, Refused}
-use Rattle.meaning.specs.Refusals.{room}
-use Rattle.meaning.specs.Calls.{given}
 use Rattle.meaning.specs.Text.{each, designLine, valueLine, devLine, spreadLine, refusedLine}
 
 -- the line of object i, from the value numerators, their denominator and the published hundredths
@@ -45,10 +42,3 @@ sheetText solved values hundredths deviations = sheetUnder (solved .verdict) sol
 -- the same, from the first numbers of two rooms: one for each object and one for each block
 abbrev pub sheetOf : Solved → List ℤ → List ℤ → List ℤ → List ℕ
 sheetOf solved values hundredths deviations = sheetText solved (take (solved .parameters .v) values) hundredths (take (solved .parameters .b) deviations)
-
--- the answer of writing a text into lent room, and the room after
-abbrev pub renderedAnswer : List ℕ → ℕ → Listed
-renderedAnswer text len = record { verdict = room len (length text); length = given (room len (length text)) (length text) 0 }
-
-abbrev pub renderedAfter : List ℕ → List ℕ → List ℕ
-renderedAfter text out = given (room (length out) (length text)) (text ++ drop (length text) out) out

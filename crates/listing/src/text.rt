@@ -6,7 +6,8 @@ ghost use mathlib.Core.Path.{_≡_};
 ghost use Prim.Native.Nat.{_≤_};
 ghost use lib.ListN.{length};
 ghost use Rattle.algebra.specs.Buffers.{Wrote};
-ghost use Rattle.listing.specs.Sheet.{valueLines, deviationLines, jobLines, sheetText, renderedAnswer, renderedAfter};
+ghost use Rattle.meaning.specs.Text.{textAnswer, textAfter};
+ghost use Rattle.listing.specs.Sheet.{valueLines, deviationLines, jobLines, sheetText};
 
 // A line for each value: its numerator is in one slice, its published hundredths in another.
 fn put_values(
@@ -97,9 +98,9 @@ pub(crate) fn render(
     out: &mut [u8],
 ) -> Listed
     requires { ⌜ length (now values) ≤ length (now hundredths) ⌝ }
-    ensures { λ r. ⌜ r ≡ renderedAnswer (sheetText solved (now (values .entry)) (now (hundredths .entry)) (now (deviations .entry)))
+    ensures { λ r. ⌜ r ≡ textAnswer (sheetText solved (now (values .entry)) (now (hundredths .entry)) (now (deviations .entry)))
         (length (now (out .entry))) ⌝ }
-    ensures { λ r. ⌜ now (out .exit) ≡ renderedAfter (sheetText solved (now (values .entry)) (now (hundredths .entry)) (now (deviations .entry)))
+    ensures { λ r. ⌜ now (out .exit) ≡ textAfter (sheetText solved (now (values .entry)) (now (hundredths .entry)) (now (deviations .entry)))
         (now (out .entry)) ⌝ }
 {
     let mut one = [0u8; 1];

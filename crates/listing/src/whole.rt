@@ -6,8 +6,8 @@ use records::Solved;
 ghost use mathlib.Core.Path.{_≡_};
 ghost use Prim.Native.Nat.{_≤_};
 ghost use lib.ListN.{length};
-ghost use Rattle.meaning.specs.Text.{listedAnswer, listedAfter};
-ghost use Rattle.listing.specs.Sheet.{sheetOf, renderedAnswer, renderedAfter};
+ghost use Rattle.meaning.specs.Text.{listedAnswer, listedAfter, textAnswer, textAfter};
+ghost use Rattle.listing.specs.Sheet.{sheetOf};
 
 // The text for a file at the front of `out`, whose other bytes stay: the listing of an accepted job, or the line of its refusal. Without room for all
 // of it nothing is written. The rooms of its own are those of the largest job.
@@ -34,9 +34,9 @@ pub(crate) fn render_first(
 ) -> Listed
     requires { ⌜ (solved .parameters .v ≤ length (now values)) × (solved .parameters .v ≤ length (now hundredths))
         × (solved .parameters .b ≤ length (now deviations)) ⌝ }
-    ensures { λ r. ⌜ r ≡ renderedAnswer (sheetOf solved (now (values .entry)) (now (hundredths .entry)) (now (deviations .entry)))
+    ensures { λ r. ⌜ r ≡ textAnswer (sheetOf solved (now (values .entry)) (now (hundredths .entry)) (now (deviations .entry)))
         (length (now (out .entry))) ⌝ }
-    ensures { λ r. ⌜ now (out .exit) ≡ renderedAfter (sheetOf solved (now (values .entry)) (now (hundredths .entry)) (now (deviations .entry)))
+    ensures { λ r. ⌜ now (out .exit) ≡ textAfter (sheetOf solved (now (values .entry)) (now (hundredths .entry)) (now (deviations .entry)))
         (now (out .entry)) ⌝ }
 {
     let v = solved.parameters.v as usize;

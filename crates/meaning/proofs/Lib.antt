@@ -10,3 +10,4 @@ pub mod Practising
 pub mod Pooling
 pub mod Addition
 pub mod Groupings
+pub mod Certificates

@@ -33,7 +33,7 @@ use Rattle.meaning.specs.File.{
   noHead,
 }
 use Rattle.meaning.specs.Writing.{bytesOf, fileOf, fileLength}
-use Rattle.meaning.specs.Text.{textUnder}
+use Rattle.meaning.specs.Text.{textUnder, textAnswer, textAfter}
 
 -- a file has at most so many bytes
 abbrev pub fileLimit2 : ℕ
@@ -149,10 +149,10 @@ unfoldable pub textOf2 : List ℕ → List ℕ
 textOf2 s = textUnder (readVerdict2 s) (fourOf s)
 
 abbrev pub listedAnswer2 : List ℕ → ℕ → Listed
-listedAnswer2 s len = record { verdict = room len (length (textOf2 s)); length = given (room len (length (textOf2 s))) (length (textOf2 s)) 0 }
+listedAnswer2 s len = textAnswer (textOf2 s) len
 
 abbrev pub listedAfter2 : List ℕ → List ℕ → List ℕ
-listedAfter2 s out = given (room (length out) (length (textOf2 s))) (textOf2 s ++ drop (length (textOf2 s)) out) out
+listedAfter2 s out = textAfter (textOf2 s) out
 
 -- ---- files written
 

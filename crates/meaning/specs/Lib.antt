@@ -17,3 +17,4 @@ pub mod Practice
 pub mod Pooled
 pub mod Card
 pub mod CardText
+pub mod Certificate

@@ -125,9 +125,16 @@ textOf s = textUnder (readVerdict s) s
 unfoldable pub benchText : List ℕ → List ℕ
 benchText input = textOf (take 8192 input)
 
--- the answer of writing the text into lent room, and the room after
+-- the answer of writing a text into lent room, and the room after: the text at its front, and later bytes stay
+abbrev pub textAnswer : List ℕ → ℕ → Listed
+textAnswer text len = record { verdict = room len (length text); length = given (room len (length text)) (length text) 0 }
+
+abbrev pub textAfter : List ℕ → List ℕ → List ℕ
+textAfter text out = given (room (length out) (length text)) (text ++ drop (length text) out) out
+
+-- the same of the text for a file
 abbrev pub listedAnswer : List ℕ → ℕ → Listed
-listedAnswer s len = record { verdict = room len (length (textOf s)); length = given (room len (length (textOf s))) (length (textOf s)) 0 }
+listedAnswer s len = textAnswer (textOf s) len
 
 abbrev pub listedAfter : List ℕ → List ℕ → List ℕ
-listedAfter s out = given (room (length out) (length (textOf s))) (textOf s ++ drop (length (textOf s)) out) out
+listedAfter s out = textAfter (textOf s) out

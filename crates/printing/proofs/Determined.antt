@@ -8,6 +8,18 @@ use borrow.Fn.World.{ArgsD, ResD}
 use borrow.Fn.Kinds.{endedOf}
 use denote.Triple.Clauses.{AtExit}
 use Rattle.algebra.proofs.Writing.{wrote-determines}
+use Rattle.printing.proofs.columns.put_spaces as put-spaces
+use Rattle.printing.proofs.columns.put_spaces.Kinds as put-spaces-kinds
+use Rattle.printing.proofs.columns.put_spaces.Reads as put-spaces-reads
+use Rattle.printing.proofs.columns.put_decimals as put-decimals
+use Rattle.printing.proofs.columns.put_decimals.Kinds as put-decimals-kinds
+use Rattle.printing.proofs.columns.put_decimals.Reads as put-decimals-reads
+use Rattle.printing.proofs.columns.put_counts as put-counts
+use Rattle.printing.proofs.columns.put_counts.Kinds as put-counts-kinds
+use Rattle.printing.proofs.columns.put_counts.Reads as put-counts-reads
+use Rattle.printing.proofs.decimals.put_digits as put-digits
+use Rattle.printing.proofs.decimals.put_digits.Kinds as put-digits-kinds
+use Rattle.printing.proofs.decimals.put_digits.Reads as put-digits-reads
 use Rattle.printing.proofs.decimals.put_number as put-number
 use Rattle.printing.proofs.decimals.put_number.Kinds as put-number-kinds
 use Rattle.printing.proofs.decimals.put_number.Reads as put-number-reads
@@ -38,6 +50,38 @@ use Rattle.printing.proofs.octets.put_bytes.Reads as put-bytes-reads
 use Rattle.printing.proofs.octets.bits as bits
 use Rattle.printing.proofs.octets.bits.Kinds as bits-kinds
 use Rattle.printing.proofs.octets.bits.Reads as bits-reads
+
+-- `put_spaces`: `out`, the place
+module _ (κs : Lfts 1) (a : ArgsD put-spaces.signature κs) (r q : ResD put-spaces.signature κs)
+    (s t : AtExit (endedOf 1 put-spaces-kinds.ps put-spaces-kinds.r) κs) where
+  pub put-spaces-determined : put-spaces-reads.Post κs a r s → put-spaces-reads.Post κs a q t →
+      (now (s .0) ≡ now (t .0))
+      × (r ≡ q)
+  put-spaces-determined p e = wrote-determines p e
+
+-- `put_decimals`: `out`, the place
+module _ (κs : Lfts 1) (a : ArgsD put-decimals.signature κs) (r q : ResD put-decimals.signature κs)
+    (s t : AtExit (endedOf 1 put-decimals-kinds.ps put-decimals-kinds.r) κs) where
+  pub put-decimals-determined : put-decimals-reads.Post κs a r s → put-decimals-reads.Post κs a q t →
+      (now (s .0) ≡ now (t .0))
+      × (r ≡ q)
+  put-decimals-determined p e = wrote-determines p e
+
+-- `put_counts`: `out`, the place
+module _ (κs : Lfts 1) (a : ArgsD put-counts.signature κs) (r q : ResD put-counts.signature κs)
+    (s t : AtExit (endedOf 1 put-counts-kinds.ps put-counts-kinds.r) κs) where
+  pub put-counts-determined : put-counts-reads.Post κs a r s → put-counts-reads.Post κs a q t →
+      (now (s .0) ≡ now (t .0))
+      × (r ≡ q)
+  put-counts-determined p e = wrote-determines p e
+
+-- `put_digits`: `out`, the place
+module _ (κs : Lfts 1) (a : ArgsD put-digits.signature κs) (r q : ResD put-digits.signature κs)
+    (s t : AtExit (endedOf 1 put-digits-kinds.ps put-digits-kinds.r) κs) where
+  pub put-digits-determined : put-digits-reads.Post κs a r s → put-digits-reads.Post κs a q t →
+      (now (s .0) ≡ now (t .0))
+      × (r ≡ q)
+  put-digits-determined p e = wrote-determines p e
 
 -- `put_number`: `out`, the place
 module _ (κs : Lfts 1) (a : ArgsD put-number.signature κs) (r q : ResD put-number.signature κs)

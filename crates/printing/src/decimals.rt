@@ -1,4 +1,4 @@
-// Numbers in decimal digits put into lent bytes from a place on, each after a space. Each function answers the place after its text; what is past the
+// Numbers in decimal digits put into lent bytes from a place on, each but the first after a space. Each function answers the place after its text; what is past the
 // end is dropped, and counted.
 use crate::put_byte;
 use arithmetic::at_most;
@@ -10,7 +10,7 @@ ghost use Rattle.meaning.specs.Text.{digits, spaced, wideText, signedText};
 ghost use Rattle.meaning.specs.Wide.{value};
 
 // n in decimal digits, the highest first.
-fn put_digits(out: &mut [u8], at: usize, n: u64) -> usize
+pub fn put_digits(out: &mut [u8], at: usize, n: u64) -> usize
     ensures { λ r. ⌜ Wrote (now (out .entry)) at (digits 20 n) (now (out .exit)) r ⌝ }
 {
     if n < 10 {

@@ -1,9 +1,14 @@
-// What is put into lent bytes from a place on: bytes, words, numbers in digits, numbers as their bytes, names. Each function answers the place after what it
-// put; what is past the end is dropped, and counted.
+// What is put into lent bytes from a place on: bytes, words, numbers in digits, numbers as their bytes, names, what columns are made of. Each
+// function answers the place after what it put; what is past the end is dropped, and counted.
+mod columns;
 mod decimals;
 mod names;
 mod octets;
 
+pub use columns::put_counts;
+pub use columns::put_decimals;
+pub use columns::put_spaces;
+pub use decimals::put_digits;
 pub use decimals::put_number;
 pub use decimals::put_signed;
 pub use decimals::put_wide;

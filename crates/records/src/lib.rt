@@ -87,6 +87,18 @@ pub struct ObjectValue {
     pub value: Value,
 }
 
+// The standard uncertainty of a value: whole hundredths of a count with their f64, or that none is stated.
+pub enum Uncertainty {
+    Stated(u64, f64),
+    Unstated,
+}
+
+// The answer of a call for the standard uncertainty of one object.
+pub struct ObjectUncertainty {
+    pub verdict: Verdict,
+    pub uncertainty: Uncertainty,
+}
+
 // The answer of a call for the deviation of one block.
 pub struct BlockDeviation {
     pub verdict: Verdict,

@@ -43,6 +43,9 @@ use Rattle.slots.proofs.jobs.lay_sum.Reads as lay-sum-reads
 use Rattle.slots.proofs.jobs.lay_value as lay-value
 use Rattle.slots.proofs.jobs.lay_value.Kinds as lay-value-kinds
 use Rattle.slots.proofs.jobs.lay_value.Reads as lay-value-reads
+use Rattle.slots.proofs.jobs.lay_uncertainty as lay-uncertainty
+use Rattle.slots.proofs.jobs.lay_uncertainty.Kinds as lay-uncertainty-kinds
+use Rattle.slots.proofs.jobs.lay_uncertainty.Reads as lay-uncertainty-reads
 use Rattle.slots.proofs.jobs.lay_deviation as lay-deviation
 use Rattle.slots.proofs.jobs.lay_deviation.Kinds as lay-deviation-kinds
 use Rattle.slots.proofs.jobs.lay_deviation.Reads as lay-deviation-reads
@@ -170,6 +173,15 @@ module _ (κs : Lfts 3) (a : ArgsD lay-value.signature κs) (r q : ResD lay-valu
       × (now (s .1 .1 .0) ≡ now (t .1 .1 .0))
       × (now (s .1 .1 .1 .0) ≡ now (t .1 .1 .1 .0))
   lay-value-determined p e = (p .0 ∙ sym (e .0), p .1 .0 ∙ sym (e .1 .0), p .1 .1 .0 ∙ sym (e .1 .1 .0), p .1 .1 .1 ∙ sym (e .1 .1 .1))
+
+-- `lay_uncertainty`: the answer, `answer`, `real`
+module _ (κs : Lfts 2) (a : ArgsD lay-uncertainty.signature κs) (r q : ResD lay-uncertainty.signature κs)
+    (s t : AtExit (endedOf 2 lay-uncertainty-kinds.ps lay-uncertainty-kinds.r) κs) where
+  pub lay-uncertainty-determined : lay-uncertainty-reads.Post κs a r s → lay-uncertainty-reads.Post κs a q t →
+      (r ≡ q)
+      × (now (s .1 .0) ≡ now (t .1 .0))
+      × (now (s .1 .1 .0) ≡ now (t .1 .1 .0))
+  lay-uncertainty-determined p e = (p .0 ∙ sym (e .0), p .1 .0 ∙ sym (e .1 .0), p .1 .1 ∙ sym (e .1 .1))
 
 -- `lay_deviation`: the answer, `signed`, `answer`
 module _ (κs : Lfts 2) (a : ArgsD lay-deviation.signature κs) (r q : ResD lay-deviation.signature κs)

@@ -13,6 +13,7 @@ use Rattle.records.specs.declared.JobWritten.{JobWritten}
 use Rattle.records.specs.declared.Judged.{Judged}
 use Rattle.records.specs.declared.Listed.{Listed}
 use Rattle.records.specs.declared.ObjectTotal.{ObjectTotal}
+use Rattle.records.specs.declared.ObjectUncertainty.{ObjectUncertainty}
 use Rattle.records.specs.declared.ObjectValue.{ObjectValue}
 use Rattle.records.specs.declared.SecondRead.{SecondRead}
 use Rattle.records.specs.declared.Solved.{Solved}
@@ -22,7 +23,7 @@ use Rattle.meaning.specs.Refusals.{_⨾_, room}
 use Rattle.meaning.specs.Publishing.{spreadValue}
 use Rattle.meaning.specs.File.{fieldSays, fieldStart, fieldNext}
 use Rattle.slots.specs.Laid.{laid, laidTable}
-use Rattle.slots.specs.Slots.{parameterSlots, spreadingSlots, solvedSlots, readSlots, secondSlots}
+use Rattle.slots.specs.Slots.{parameterSlots, statedSlots, statedValue, spreadingSlots, solvedSlots, readSlots, secondSlots}
 
 -- ---- designs
 
@@ -72,6 +73,17 @@ module _ (x : ObjectValue) (signed : List ℤ) (answer : List ℕ) (real : List 
 
   abbrev pub valueReal : List Float
   valueReal = laid valueCall (x .value .value ∷ x .value .«factor_value» ∷ []) real
+
+-- the standard uncertainty of one object: hundredths, whether it is stated; its f64, 0.0 where it is not
+module _ (x : ObjectUncertainty) (answer : List ℕ) (real : List Float) where
+  unfoldable pub uncertaintyCall : Verdict
+  uncertaintyCall = x .verdict ⨾ room (length answer) 2 ⨾ room (length real) 1
+
+  abbrev pub uncertaintyLaid : List ℕ
+  uncertaintyLaid = laid uncertaintyCall (statedSlots (x .uncertainty)) answer
+
+  abbrev pub uncertaintyReal : List Float
+  uncertaintyReal = laid uncertaintyCall (statedValue (x .uncertainty) ∷ []) real
 
 -- the deviation of one block: numerator; denominator
 module _ (x : BlockDeviation) (signed : List ℤ) (answer : List ℕ) where

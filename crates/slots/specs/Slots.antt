@@ -5,6 +5,10 @@ use Rattle.records.specs.declared.Parameters.{Parameters}
 use Rattle.records.specs.declared.Spread.{Spread}
 use Rattle.records.specs.declared.Spread.the-variants.{Of, None}
 use Rattle.records.specs.declared.Spreading.{Spreading}
+use Rattle.records.specs.declared.Uncertainty.{Uncertainty}
+use Rattle.records.specs.declared.Uncertainty.the-variants.{Stated, Unstated}
+use Rattle.meaning.specs.Publishing.{floatZero}
+use lib.Ieee.{Float}
 use Rattle.records.specs.declared.Solved.{Solved}
 use Rattle.records.specs.declared.JobRead.{JobRead}
 use Rattle.records.specs.declared.SecondRead.{SecondRead}
@@ -17,6 +21,15 @@ parameterSlots p = p .v ∷ p .b ∷ p .r ∷ p .p ∷ p .l1 ∷ p .l2 ∷ []
 abbrev pub hasSpread : Spread → ℕ
 hasSpread (Of x f) = 1
 hasSpread None = 0
+
+-- a standard uncertainty: its hundredths, 0 where none is stated, and 1 where one is, else 0; its f64, 0.0 where none is
+abbrev pub statedSlots : Uncertainty → List ℕ
+statedSlots (Stated u x) = u ∷ 1 ∷ []
+statedSlots Unstated = 0 ∷ 0 ∷ []
+
+abbrev pub statedValue : Uncertainty → Float
+statedValue (Stated u x) = x
+statedValue Unstated = floatZero
 
 -- what a spread is made from: Q in two words, high first, v·beta, f, hundredths, whether there is a spread
 abbrev pub spreadingSlots : Spreading → List ℕ

@@ -5,9 +5,10 @@ use records::SecondRead;
 use records::Solved;
 use records::Spread;
 use records::Spreading;
+use records::Uncertainty;
 ghost use mathlib.Core.Path.{_≡_};
 ghost use Rattle.meaning.specs.Publishing.{spreadValue};
-ghost use Rattle.slots.specs.Slots.{parameterSlots, hasSpread, spreadingSlots, solvedSlots, readSlots, secondSlots};
+ghost use Rattle.slots.specs.Slots.{parameterSlots, hasSpread, statedSlots, statedValue, spreadingSlots, solvedSlots, readSlots, secondSlots};
 
 // The parameters of a design.
 pub(crate) fn parameter_slots(parameters: Parameters) -> [u64; 6]
@@ -105,6 +106,26 @@ pub(crate) fn spread_value(spread: Spread) -> f64
     match spread {
         Spread::Of(value, _) => value,
         Spread::None => 0.0,
+    }
+}
+
+// A standard uncertainty: its hundredths, and 1 where it is stated, else 0 and 0.
+pub(crate) fn stated_slots(uncertainty: Uncertainty) -> [u64; 2]
+    ensures { λ r. ⌜ r ≡ statedSlots uncertainty ⌝ }
+{
+    match uncertainty {
+        Uncertainty::Stated(hundredths, _) => [hundredths, 1],
+        Uncertainty::Unstated => [0, 0],
+    }
+}
+
+// Its f64, 0.0 where it is not stated.
+pub(crate) fn stated_value(uncertainty: Uncertainty) -> f64
+    ensures { λ r. ⌜ r ≡ statedValue uncertainty ⌝ }
+{
+    match uncertainty {
+        Uncertainty::Stated(_, value) => value,
+        Uncertainty::Unstated => 0.0,
     }
 }
 

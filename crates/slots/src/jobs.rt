@@ -1,7 +1,9 @@
-// What calls on readings and on whole jobs answer: a total, a sum of squares, a value, a deviation, a spread, a job worked out.
+// What calls on readings and on whole jobs answer: a total, a sum of squares, a value, its standard uncertainty, a deviation, a spread, a job worked out.
 use crate::arrays::solved_slots;
 use crate::arrays::spread_value;
 use crate::arrays::spreading_slots;
+use crate::arrays::stated_slots;
+use crate::arrays::stated_value;
 use crate::laying::lay;
 use crate::laying::lay_real;
 use crate::laying::lay_signed;
@@ -10,12 +12,14 @@ use crate::telling::told;
 use records::BlockDeviation;
 use records::JobSpread;
 use records::ObjectTotal;
+use records::ObjectUncertainty;
 use records::ObjectValue;
 use records::Solved;
 use records::SquareSum;
 ghost use mathlib.Core.Path.{_≡_};
 ghost use Rattle.slots.specs.Told.{told};
 ghost use Rattle.slots.specs.Answers.{totalCall, totalSigned, sumCall, sumLaid, valueCall, valueSigned, valueLaid, valueReal};
+ghost use Rattle.slots.specs.Answers.{uncertaintyCall, uncertaintyLaid, uncertaintyReal};
 ghost use Rattle.slots.specs.Answers.{deviationCall, deviationSigned, deviationLaid};
 ghost use Rattle.slots.specs.Answers.{spreadCall, spreadLaid, spreadReal, solvedCall, solvedLaid, solvedReal};
 
@@ -66,6 +70,23 @@ pub fn lay_value(
     let slots = [value.denominator, value.factor];
     lay(verdict, &slots, answer);
     let reals = [value.value, value.factor_value];
+    lay_real(verdict, &reals, real);
+    told(verdict)
+}
+
+// The standard uncertainty of one object.
+pub fn lay_uncertainty(found: ObjectUncertainty, answer: &mut [u64], real: &mut [f64]) -> u64
+    ensures { λ r. ⌜ r ≡ told (uncertaintyCall found (now (answer .entry)) (now (real .entry))) ⌝ }
+    ensures { λ _. ⌜ now (answer .exit) ≡ uncertaintyLaid found (now (answer .entry)) (now (real .entry)) ⌝ }
+    ensures { λ _. ⌜ now (real .exit) ≡ uncertaintyReal found (now (answer .entry)) (now (real .entry)) ⌝ }
+{
+    let tested = found.verdict;
+    let uncertainty = found.uncertainty;
+    let answer_tested = with_room(tested, answer.len(), 2);
+    let verdict = with_room(answer_tested, real.len(), 1);
+    let slots = stated_slots(uncertainty);
+    lay(verdict, &slots, answer);
+    let reals = [stated_value(uncertainty)];
     lay_real(verdict, &reals, real);
     told(verdict)
 }

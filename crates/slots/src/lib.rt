@@ -26,6 +26,7 @@ pub use crate::jobs::lay_solved;
 pub use crate::jobs::lay_spread;
 pub use crate::jobs::lay_sum;
 pub use crate::jobs::lay_total;
+pub use crate::jobs::lay_uncertainty;
 pub use crate::jobs::lay_value;
 pub use crate::pools::lay_pooled;
 pub use crate::pools::told_at;

@@ -60,6 +60,9 @@ calls! {
     /// The value of one object: numerator, hundredths; denominator, variance factor; the f64s of the value and of the factor.
     value_of = bench_value_of(n: usize, flag: usize, p: usize, m: usize, blocks: &[u8], readings: &[i32], set: u64, sum: i64, object: usize,
         signed_slots: &mut [i64], answer: &mut [u64], real: &mut [f64],);
+    /// The standard uncertainty of one object: hundredths, 1 where it is stated; its f64.
+    uncertainty_of = bench_uncertainty_of(n: usize, flag: usize, p: usize, m: usize, blocks: &[u8], readings: &[i32], set: u64, sum: i64, object: usize,
+        answer: &mut [u64], real: &mut [f64],);
     /// The v published hundredths.
     published = bench_published(n: usize, flag: usize, p: usize, m: usize, blocks: &[u8], readings: &[i32], set: u64, sum: i64, hundredths: &mut [i64],);
     /// The b numerators of the deviations.

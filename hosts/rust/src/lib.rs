@@ -219,7 +219,8 @@ pub struct Value {
 impl Value {
     /// The standard deviation of this value, in counts: the spread of the readings times the root of the variance factor. None where there is no spread.
     ///
-    /// This is computed here in floating point, and not proved. What is proved is what it is made from: the spread, cut to hundredths of a count, and the factor.
+    /// This is computed here in floating point, and not proved. What is proved is what it is made from: the spread, cut to hundredths of a count, and the factor;
+    /// and [`uncertainty_of`], in whole hundredths of a count.
     ///
     /// ```
     /// # use mass_bench::{spread, value_of, Head};
@@ -232,6 +233,13 @@ impl Value {
     pub fn standard_deviation(&self, spread: Option<Spread>) -> Option<f64> {
         spread.map(|spread| spread.value * self.factor_value.sqrt())
     }
+}
+
+/// The standard uncertainty of a value, in whole hundredths of a count and as an f64.
+#[derive(Debug, Clone, Copy, PartialEq)]
+pub struct Uncertainty {
+    pub hundredths: u64,
+    pub value: f64,
 }
 
 /// The deviation of one block: a fraction that is not reduced.
@@ -520,6 +528,24 @@ pub fn value_of(head: Head, blocks: &[u8], readings: &[i32], set: u64, sum: i64,
     refusal_in(calls::value_of(n, flag, p, m, blocks, readings, set, sum, object, &mut signed, &mut answer, &mut real))?;
     let ([numerator, hundredths], [denominator, factor], [value, factor_value]) = (signed, answer, real);
     Ok(Value { numerator, denominator, hundredths, value, factor, factor_value })
+}
+
+/// The standard uncertainty of one object, which a certificate states: the least whole number of hundredths of a count that is not below 100 times the exact
+/// standard deviation of a reading times the root of the variance factor, so that it is never understated. None where there is no degree of freedom.
+///
+/// ```
+/// # use mass_bench::{uncertainty_of, Head, Uncertainty};
+/// let of = |object| uncertainty_of(Head { n: 5, flag: 0, p: 2, m: 1 }, &[1, 4, 2, 3], &[11, -3, 4, 1, -8], 0b11, 7, object);
+/// assert_eq!(of(1)?, Some(Uncertainty { hundredths: 71, value: 0.71 }));
+/// assert_eq!(of(2)?, Some(Uncertainty { hundredths: 123, value: 1.23 }));
+/// # Ok::<(), mass_bench::Refusal>(())
+/// ```
+pub fn uncertainty_of(head: Head, blocks: &[u8], readings: &[i32], set: u64, sum: i64, object: usize) -> Result<Option<Uncertainty>, Refusal> {
+    let Head { n, flag, p, m } = head;
+    let (mut answer, mut real) = ([0; 2], [0.0]);
+    refusal_in(calls::uncertainty_of(n, flag, p, m, blocks, readings, set, sum, object, &mut answer, &mut real))?;
+    let ([hundredths, stated], [value]) = (answer, real);
+    Ok((stated == 1).then_some(Uncertainty { hundredths, value }))
 }
 
 /// The published hundredths of a count of all objects. Members of the restraint have the whole number at or below 100 times their value, and what then lacks

@@ -420,6 +420,13 @@ fn slots_of_several_kinds() {
         |signed, answer, real| calls::value_of(n, flag, p, m, b, y, SET, SUM, 6, signed, answer, real),
     );
     slots(
+        "uncertainty_of",
+        (vec![], vec![71, 1], vec![0.71]),
+        |_, answer, real| calls::uncertainty_of(n, flag, p, m, b, y, SET, SUM, 1, answer, real),
+        5 + (6 << 16),
+        |_, answer, real| calls::uncertainty_of(n, flag, p, m, b, y, SET, SUM, 6, answer, real),
+    );
+    slots(
         "deviation_of",
         (vec![5], vec![5], vec![]),
         |signed, answer, _| calls::deviation_of(n, flag, p, m, b, y, 1, signed, answer),

@@ -19,7 +19,6 @@ use Rattle.meaning.specs.Publishing.{published, valueOf, noValue}
 use Rattle.meaning.specs.Refusals.{_⨾_, accepted, refused, number, place, clean, inBalance, restraint, inReach, room}
 use Rattle.meaning.specs.Calls.{given, slices, contents, jobVerdict, rooms, analyseVerdict, valuesVerdict, valueVerdict, valueAnswer}
 use Rattle.laws.proofs.Chains.{Job, opened, accepts, goes-on, refused-stays, test-yes, test-no, job}
-use Rattle.laws.proofs.Analysis.{job-members}
 use Rattle.laws.proofs.Variance.{factor-most}
 use Rattle.words.proofs.Members.{ones-members}
 use Rattle.verdicts.proofs.Told.{refusing}
@@ -101,10 +100,6 @@ module _ (h : Head) (d : List ℕ) (y : List ℤ) (w : ℕ) (M : ℤ) where
 -- the ones of the restraint set of an accepted job are its t,
 ones-are : (h : Head) (d : List ℕ) (y : List ℤ) (w : ℕ) (M : ℤ) → Job h d y w M → sumℕ 64 (member w) ≡ members (objects h) w
 ones-are h d y w M j = ones-members (objects h) w (omega (arith, j .measures .design .sizes .objects-most)) (j .restraint .set-inside)
-
--- there are some,
-pub ones-some : (h : Head) (d : List ℕ) (y : List ℤ) (w : ℕ) (M : ℤ) → Job h d y w M → 0 < sumℕ 64 (member w)
-ones-some h d y w M j = rw (ones-are h d y w M j) (job-members h d y w M j)
 
 -- and they make the factor of the definition
 pub factor-is : (h : Head) (d : List ℕ) (y : List ℤ) (w : ℕ) (M : ℤ) (i : ℕ) → Job h d y w M → factorIn w i ≡ factor h w i

@@ -9,11 +9,11 @@ use Rattle.algebra.specs.Buffers.{Wrote}
 use Rattle.algebra.proofs.Writing.{measured, longer, in-front}
 use Rattle.records.specs.declared.Listed.{Listed}
 use Rattle.records.specs.declared.Verdict.the-variants.{Accepted, Refused}
-use Rattle.listing.specs.Sheet.{renderedAnswer, renderedAfter}
+use Rattle.meaning.specs.Text.{textAnswer, textAfter}
 
 -- the answer and the room after are those of writing the text
 abbrev pub Rendered : List ℕ → List ℕ → Listed → List ℕ → Type 0
-Rendered text out r after = (r ≡ renderedAnswer text (length out)) × (after ≡ renderedAfter text out)
+Rendered text out r after = (r ≡ textAnswer text (length out)) × (after ≡ textAfter text out)
 
 module _ (text out : List ℕ) (small : length out < 18446744073709551615) {one one′ : List ℕ} {n : ℕ} (dry : Wrote one 0 text one′ n) where
   -- too long: refused, and the room is as it was

@@ -10,7 +10,6 @@ use lib.ListN.{getD}
 use mir.Syntax.{w64}
 use mir.Val.{toZ, ofZ}
 use mir.Facts.{toZ-ofZ}
-use Rattle.algebra.specs.Ranges.{sumℕ}
 use Rattle.algebra.specs.Buffers.{over}
 use Rattle.algebra.proofs.Filling.{getD-over}
 use Rattle.algebra.proofs.Signs.{read-back}
@@ -18,7 +17,7 @@ use Rattle.records.specs.declared.Head.{Head}
 use Rattle.records.specs.declared.Verdict.{Verdict}
 use Rattle.records.specs.declared.Solved.{Solved}
 use Rattle.meaning.specs.Design.{objects}
-use Rattle.meaning.specs.Analysis.{member, numeratorOf, denominatorOf}
+use Rattle.meaning.specs.Analysis.{numeratorOf, denominatorOf}
 use Rattle.meaning.specs.Publishing.{published}
 use Rattle.meaning.specs.Refusals.{_⨾_, accepted, refused, clean}
 use Rattle.meaning.specs.Calls.{slices, jobVerdict, analyseVerdict}
@@ -30,7 +29,7 @@ use Rattle.analysis.specs.Worked.{factorIn}
 use Rattle.analysis.specs.Column.{columnOf}
 use Rattle.analysis.proofs.Column.{column-published}
 use Rattle.analysis.proofs.values.Refusing.{job-verdict, value-refused, value-no-object, value-job, no-value-is, value-is-given}
-use Rattle.analysis.proofs.values.Refusing.{ones-some, factor-is, value-from-is}
+use Rattle.analysis.proofs.values.Refusing.{factor-is, value-from-is}
 use Rattle.analysis.proofs.values.value_of.Statement.{statement}
 use Rattle.analysis.proofs.values.value_of.Tie as tie
 
@@ -131,10 +130,6 @@ module _ (c : tie.After-column) where
   good : tests worked ≡ accepted
   good = sym (solved-verdict worked) ∙ accepting _ (sym (c .before .before .before .is-refused2 .ensures) ∙ c .before .before .if3 .left)
 
--- its restraint set has a member
-factor-held : (c : tie.After-column) → 0 < sumℕ 64 (member (start (worked c) .args .set))
-factor-held c = ones-some _ _ _ _ _ (job _ _ _ _ _ (good c))
-
 returns-4 : tie.Need-returns-4
 returns-4 c =
     let f = c .before .before .before in
@@ -175,7 +170,7 @@ value-of-spec =
     (λ c κs. search needs)
     returns-3
     (λ c κs. search needs)
-    (λ c κs. factor-held c)
+    (λ c κs. tt)
     (λ c. omega (arith, fitting (c .before)))
     (λ c. omega (arith, fitting (c .before)))
     (λ c. omega (arith, fitting (c .before .before)))

@@ -9,9 +9,10 @@ use lib.IntN.{ℤ, pos}
 use lib.ListN.{length, take}
 use Rattle.algebra.proofs.Filling.{length-over}
 use Rattle.meaning.specs.File.{setOf}
+use Rattle.meaning.specs.Text.{textAnswer, textAfter}
 use Rattle.meaning.specs.Edition2.{fourOf, textOf2}
 use Rattle.analysis.specs.Column.{hundredthsFrom, columnOf}
-use Rattle.listing.specs.Sheet.{sheetText, renderedAnswer, renderedAfter}
+use Rattle.listing.specs.Sheet.{sheetText}
 use Rattle.listing.proofs.whole.Worked.{solved-fits2, solved-few2, solved-text2}
 use Rattle.listing.proofs.second.listing_second.Statement.{statement}
 use Rattle.listing.proofs.second.listing_second.Tie as tie
@@ -67,8 +68,8 @@ returns c =
     (take (s .solve-second .result .parameters .b) (s .solve-second .last .1 .1 .1 .0)) ≡ textOf2 (file s) =
     ap (λ (l : List ℤ). sheetText (s .solve-second .result) (take (s .solve-second .result .parameters .v) (s .solve-second .last .1 .1 .0)) l
     (take (s .solve-second .result .parameters .b) (s .solve-second .last .1 .1 .1 .0))) (published k) ∙ text s in (
-      search (c .before .before .render-first .ensures .0) ∙ (λ j. renderedAnswer (same j) (length out)),
-      search (c .before .before .render-first .ensures .1) ∙ (λ j. renderedAfter (same j) out),
+      search (c .before .before .render-first .ensures .0) ∙ (λ j. textAnswer (same j) (length out)),
+      search (c .before .before .render-first .ensures .1) ∙ (λ j. textAfter (same j) out),
     )
 
 pub listing-second-spec : {M : Type 1} → statement M

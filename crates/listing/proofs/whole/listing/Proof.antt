@@ -10,9 +10,9 @@ use lib.ListN.{length, take}
 use Rattle.algebra.proofs.Filling.{length-over}
 use Rattle.records.specs.declared.Held.{Held}
 use Rattle.meaning.specs.File.{setOf}
-use Rattle.meaning.specs.Text.{textOf}
+use Rattle.meaning.specs.Text.{textOf, textAnswer, textAfter}
 use Rattle.analysis.specs.Column.{hundredthsFrom, columnOf}
-use Rattle.listing.specs.Sheet.{sheetText, renderedAnswer, renderedAfter}
+use Rattle.listing.specs.Sheet.{sheetText}
 use Rattle.listing.proofs.whole.Worked.{solved-fits, solved-few, solved-text}
 use Rattle.listing.proofs.whole.listing.Statement.{statement}
 use Rattle.listing.proofs.whole.listing.Tie as tie
@@ -66,8 +66,8 @@ returns c =
     (take (s .solve .result .parameters .b) (s .solve .last .1 .1 .1 .0)) ≡ textOf (file s) =
     ap (λ (l : List ℤ). sheetText (s .solve .result) (take (s .solve .result .parameters .v) (s .solve .last .1 .1 .0)) l
     (take (s .solve .result .parameters .b) (s .solve .last .1 .1 .1 .0))) (published k) ∙ text s in (
-      search (c .before .before .render-first .ensures .0) ∙ (λ j. renderedAnswer (same j) (length out)),
-      search (c .before .before .render-first .ensures .1) ∙ (λ j. renderedAfter (same j) out),
+      search (c .before .before .render-first .ensures .0) ∙ (λ j. textAnswer (same j) (length out)),
+      search (c .before .before .render-first .ensures .1) ∙ (λ j. textAfter (same j) out),
     )
 
 pub listing-spec : {M : Type 1} → statement M

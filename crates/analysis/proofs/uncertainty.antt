@@ -1,0 +1,2 @@
+-- The standard uncertainty of an accepted job's object.
+pub mod Stating

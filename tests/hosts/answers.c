@@ -131,6 +131,8 @@ static uint64_t made(const char *call, const struct asked *a, struct rooms *r, F
     ROW(bench_values, (JOB, ROOM(values)), PUT(r->values, v))
     ROW(bench_value_of, (JOB, a->number, ROOM(signed_slots), ROOM(answer), ROOM(real)),
         SIGNED(BENCH_VALUE_SIGNED_SLOTS); SLOTS(BENCH_VALUE_SLOTS); put_reals(out, r->real, BENCH_VALUE_REAL_SLOTS))
+    ROW(bench_uncertainty_of, (JOB, a->number, ROOM(answer), ROOM(real)),
+        SLOTS(BENCH_UNCERTAINTY_SLOTS); put_reals(out, r->real, BENCH_UNCERTAINTY_REAL_SLOTS))
     ROW(bench_published, (JOB, ROOM(hundredths)), PUT(r->hundredths, v))
     ROW(bench_deviations, (WEIGHED, ROOM(deviations)), PUT(r->deviations, b))
     ROW(bench_deviation_of, (WEIGHED, a->number, ROOM(signed_slots), ROOM(answer)), SIGNED(BENCH_DEVIATION_SIGNED_SLOTS); SLOTS(BENCH_DEVIATION_SLOTS))

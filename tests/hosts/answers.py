@@ -94,6 +94,10 @@ def value(found):
     return [[whole, found.hundredths], [found.denominator, factor], bits(found.real, found.real_factor)]
 
 
+def uncertainty(found):
+    return [[found.hundredths, 1], bits(found.real)] if found else [[0, 0], bits(0.0)]
+
+
 def read(job):
     return [[job.accepted_sum], [*job.head, job.blocks_at, job.readings_at, sum(1 << bit for bit in job.restraint)]]
 
@@ -130,6 +134,7 @@ CALLS = {
     "bench_refusal": lambda a: bench.refusal(*a.job) or [],
     "bench_values": lambda a: [numerators(bench.values(*a.job), bench.value_of(*a.job, 0).denominator)],
     "bench_value_of": lambda a: value(bench.value_of(*a.job, a.number)),
+    "bench_uncertainty_of": lambda a: uncertainty(bench.uncertainty_of(*a.job, a.number)),
     "bench_published": lambda a: [bench.published(*a.job)],
     "bench_deviations": lambda a: [numerators(bench.deviations(*a.weighed), bench.deviation_of(*a.weighed, 0).denominator)],
     "bench_deviation_of": lambda a: (lambda found: [numerators([found.value], found.denominator), [found.denominator]])(bench.deviation_of(*a.weighed, a.number)),

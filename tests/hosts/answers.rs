@@ -167,6 +167,11 @@ fn rooms(call: &str, a: &Asked) -> Result<Rooms, No> {
             let reals = vec![value.value.to_bits(), value.factor_value.to_bits()];
             vec![signed(&[value.numerator, value.hundredths]), vec![value.denominator, value.factor], reals]
         }
+        "bench_uncertainty_of" => {
+            let found = uncertainty_of(a.head(), &a.blocks(), &a.readings(), a.restraint().0, a.restraint().1, a.number("number"))?;
+            let (hundredths, value) = found.map_or((0, 0.0), |found| (found.hundredths, found.value));
+            vec![vec![hundredths, found.is_some().into()], vec![value.to_bits()]]
+        }
         "bench_published" => vec![signed(&published(a.head(), &a.blocks(), &a.readings(), a.restraint().0, a.restraint().1)?)],
         "bench_deviations" => vec![signed(&deviations(a.head(), &a.blocks(), &a.readings())?)],
         "bench_deviation_of" => {

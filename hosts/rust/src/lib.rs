@@ -238,7 +238,9 @@ impl Value {
 /// The standard uncertainty of a value, in whole hundredths of a count and as an f64.
 #[derive(Debug, Clone, Copy, PartialEq)]
 pub struct Uncertainty {
+    /// Hundredths of a count.
     pub hundredths: u64,
+    /// In counts.
     pub value: f64,
 }
 

@@ -7,7 +7,7 @@ import pathlib
 import re
 import sys
 
-PAGES = ["README.md", "tests/count/README.md"] + [f"docs/{p}.md" for p in ("READING", "PROMISES", "DECISIONS", "TRACE", "CHECKING", "SPEED", "WORKING")]
+PAGES = ["README.md", "tests/count/README.md"] + [f"docs/{p}.md" for p in ("READING", "PROMISES", "DECISIONS", "TRACE", "CHECKING", "SPEED", "WORKING", "HOSTS")]
 PLACES = ("crates", "hosts", "tests", "tools", "examples", ".ci")
 FOREIGN = {"xxd", "cargo", "pkg-config"}
 SOURCES = {".rt", ".antt", ".rs", ".py", ".h", ".c", ".toml", ".txt", ".edit", ""}

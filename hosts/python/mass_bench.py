@@ -18,8 +18,8 @@ mass_bench.Refusal: refused 6 at 0: the developed design is unbalanced
 Traceback (most recent call last):
 ValueError: blocks: an entry is out of its range, 0 to 255
 
-Calls may be made from several threads at once, and do not wait for each other. A call takes at most 121 KB of its thread's stack (bench.h has the figure of each):
-a thread that was given less by threading.stack_size must make none.
+Calls may be made from several threads at once, and do not wait for each other. What a call takes of its thread's stack stands in bench.h: a thread that threading.stack_size
+gave less must make none.
 """
 from __future__ import annotations
 

@@ -1,6 +1,7 @@
 -- What the customer signs: the three demands, each for every byte string and for every direct call, and the requests on writing jobs, on fields, on the
--- second edition, on uncertainty, on sums of days, on grouped sets, on sheets of other laboratories, on practice readings, on the pooled spread and on cards.
--- Each is a record of specs/, with a field for each clause of the customer's sentence; here stand the proofs, by the laws of the definitions.
+-- second edition, on uncertainty, on sums of days, on grouped sets, on sheets of other laboratories, on practice readings, on the pooled spread, on cards and
+-- on the faster balance check. Each is a record of specs/, with a field for each clause of the customer's sentence; here stand the proofs, by the laws of
+-- the definitions.
 --     demand-1, demand-1-calls       specs/Demand1, specs/Calls      refused by number, place and order, and nothing lent is changed
 --     demand-2, demand-2-calls       specs/Demand2, specs/Answers    accepted exactly if balanced, and the paper's fractions
 --     demand-3, demand-3-calls       specs/Demand3                   the exact values are best, and the published ones near
@@ -18,6 +19,7 @@
 --     the-generator, practice-readings    specs/Practice             readings from true values, and what they give back (02, P11)
 --     pooled-spread, one-job-pooled, no-freedom-adds-nothing    specs/Pooled    one spread of up to 64 jobs, in any order (02, P13)
 --     pooled-cut, pooled-refused, pooled-odd                    specs/Pooled    its refusals, with the index of a job (02, P13)
+--     faster-balance-check           specs/Differences               the judgement by differences is the full pair table's (02, P14)
 --     words-of-cards, comments-and-spacing                      specs/Cards     comments and spacing change nothing
 --     cards-of-files, cards-of-second-files                     specs/Cards     the card that is printed for a file reads as that file
 -- Assumes nothing.
@@ -73,6 +75,8 @@ use Rattle.demands.proofs.Sheet.{sheet-of-parts, sheet-of-file, sheet-o
 use Rattle.demands.proofs.Practice.{generator, practice-read}
 use Rattle.demands.proofs.Cards.{card-words, card-spacing, card-of-file, card-of-second}
 use Rattle.demands.proofs.Pooled as pooling
+use Rattle.demands.specs.Differences.{FasterCheck}
+use Rattle.demands.proofs.Differences.{faster-check}
 
 pub demand-1 : (s : List ℕ) → Demand1 s
 unfolding textOf
@@ -231,3 +235,6 @@ cards-of-files = card-of-file
 
 pub cards-of-second-files : (s : List ℕ) → CardsOfSecondFiles s
 cards-of-second-files = card-of-second
+
+pub faster-balance-check : (h : Head) (d : List ℕ) → FasterCheck h d
+faster-balance-check = faster-check

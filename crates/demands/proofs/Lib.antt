@@ -21,5 +21,6 @@ pub mod NoFreedom
 pub mod Pooled
 pub mod Groups
 pub mod Cards
+pub mod Differences
 pub mod Demands
 pub mod Rows

@@ -22,3 +22,4 @@ pub mod Practice
 pub mod Pooled
 pub mod Groups
 pub mod Cards
+pub mod Differences

@@ -72,22 +72,10 @@ fn count_block(
     let left = 2 * p * j;
     let right = left + p;
     let end = right + p;
-    count_from(
-        head,
-        card,
-        &blocks[left..right],
-        &blocks[right..end],
-        within,
-        across,
-    );
-    count_from(
-        head,
-        card,
-        &blocks[right..end],
-        &blocks[left..right],
-        within,
-        across,
-    );
+    let on_left = &blocks[left..right];
+    let on_right = &blocks[right..end];
+    count_from(head, card, on_left, on_right, within, across);
+    count_from(head, card, on_right, on_left, within, across);
 }
 
 // Adds the differences from the elements of a side: to the objects of that side, and to those of the other.

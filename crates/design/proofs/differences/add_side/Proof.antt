@@ -44,12 +44,16 @@ object c =
 long : (c : tie.After-object-of Inv-loop μ-loop) → length (c .before .before .before .loop .counts) ≡ 50
 long c = c .before .before .before .loop .inv .2 .long ∙ c .before .before .before .before .before .before .pre .4 .long
 
+-- where the row is read
+abbrev known : tie.After-slice-known2 Inv-loop μ-loop → tie.After-object-of Inv-loop μ-loop
+known c = c .before
+
 add-counts : tie.Need-add-counts Inv-loop μ-loop
 add-counts c =
-    let s = c .before .before .before .before .before .before .before in
-    let l = c .before .before .before .before .loop in
-    let e = c .before .object-of .result in
-    let m = object (c .before) in
+    let s = known c .before .before .before .before .before .before in
+    let l = known c .before .before .before .loop in
+    let e = known c .object-of .result in
+    let m = object (known c) in
     omega (
       arith,
       l .inv .2 .each e m,
@@ -59,13 +63,14 @@ add-counts c =
 
 loop-again : tie.Need-loop-again Inv-loop μ-loop
 loop-again c =
-    let s = c .before .before .before .before .before .before .before in
-    let l = c .before .before .before .before .loop in
+    let s = known c .before .before .before .before .before .before in
+    let l = known c .before .before .before .loop in
     let more : l .k < length (now (s .args .side)) = omega arith in (
       search needs,
       search needs,
-      counted-next (moved (s .args .head) (s .args .shift)) (now (s .args .side)) (l .k) (c .before .object-of .result) (l .counts) (now (s .args .counts)) more
-          (c .before .object-of .ensures) (omega (arith, object (c .before), l .inv .2 .long, s .pre .4 .long)) (l .inv .2),
+      search
+          (counted-next (moved (s .args .head) (s .args .shift)) (now (s .args .side)) (l .k) (known c .object-of .result) (l .counts) (now (s .args .counts)) more
+          (known c .object-of .ensures) (omega (arith, object (known c), l .inv .2 .long, s .pre .4 .long)) (l .inv .2)),
     )
 
 returns : tie.Need-returns Inv-loop μ-loop
@@ -85,9 +90,9 @@ add-side-spec =
     (λ c. search needs)
     object-of-requires
     (λ c. omega (arith, object c))
-    (λ c. omega (arith, object (c .before), long (c .before)))
+    (λ c. omega (arith, object (known c), long (known c)))
     add-counts
-    (λ c. omega (arith, object (c .before), long (c .before)))
+    (λ c. omega (arith, object (known c), long (known c)))
     (λ c. search needs)
     (λ c. search needs)
     loop-again

@@ -60,11 +60,11 @@ add-right c = omega (arith, inside (c .before .before .before) .0, inside (c .be
 add-end : tie.Need-add-end
 add-end c = omega (arith, inside (c .before .before .before) .0, inside (c .before .before .before) .1)
 
-part-count-from-end : tie.Need-part-count-from-end
-part-count-from-end c = let s = c .before .before .before in omega (arith, inside s .0, sound _ _ (s .pre .0) .long)
+part-on-left-end : tie.Need-part-on-left-end
+part-on-left-end c = let s = c .before .before .before in omega (arith, inside s .0, sound _ _ (s .pre .0) .long)
 
-part-count-from-end-2 : tie.Need-part-count-from-end-2
-part-count-from-end-2 c = let s = c .before .before .before .before in omega (arith, inside s .0, sound _ _ (s .pre .0) .long)
+part-on-right-end : tie.Need-part-on-right-end
+part-on-right-end c = let s = c .before .before .before .before in omega (arith, inside s .0, sound _ _ (s .pre .0) .long)
 
 count-from-requires : tie.Need-count-from-requires
 count-from-requires c κs =
@@ -77,20 +77,14 @@ count-from-requires c κs =
       row-wider 80000 100000 (now (s .args .across)) (omega arith) (s .pre .4),
     )
 
-part-count-from-end-3 : tie.Need-part-count-from-end-3
-part-count-from-end-3 c = let s = c .before .before .before .before .before .before .before .before .before .before .before .before in omega (arith, inside s .0, sound _ _ (s .pre .0) .long)
-
-part-count-from-end-4 : tie.Need-part-count-from-end-4
-part-count-from-end-4 c = let s = c .before .before .before .before .before .before .before .before .before .before .before .before .before in omega (arith, inside s .0, sound _ _ (s .pre .0) .long)
-
 count-from-requires-2 : tie.Need-count-from-requires-2
 count-from-requires-2 c κs =
-    let s = c .before .before .before .before .before .before .before .before .before .before .before .before .before .before .before .before in
-    let one = c .before .before .before .before .before .before .before .before .count-from .ensures in (
+    let s = c .before .before .before .before .before .before .before .before .before .before .before .before .before .before in
+    let one = c .before .before .before .before .before .before .count-from .ensures in (
       sound _ _ (s .pre .0) .sizes,
       s .pre .1,
       right s,
-      left s,
+      search (left s, right s),
       row-still (λ e. met (s .args .head) e (on-left s) (on-left s)) 80000 625 100000 (now (s .args .within)) _ (s .pre .3) (one .0)
           (λ e. met-most (s .args .head) e (on-left s) (on-left s) (left s .few) (left s .few)) (omega arith),
       row-still (λ e. met (s .args .head) e (on-right s) (on-left s)) 80000 625 100000 (now (s .args .across)) _ (s .pre .4) (one .1)
@@ -99,14 +93,14 @@ count-from-requires-2 c κs =
 
 returns : tie.Need-returns
 returns c =
-    let a = c .before .before .before .before .before .before .before .before .before .before .before .before .before .before .before .before .before .before .before .before .before .args in
+    let a = c .before .before .before .before .before .before .before .before .before .before .before .before .before .before .before .before .before .before .before .args in
     let h = a .head in
     let d = now (a .blocks) in
-    let one = c .before .before .before .before .before .before .before .before .before .before .before .before .before .count-from .ensures in
+    let one = c .before .before .before .before .before .before .before .before .before .before .before .count-from .ensures in
     let two = c .before .before .before .before .count-from2 .ensures in
     let l = part-same (2 * h .p * a .j) (h .p) d in
     let r = part-same (2 * h .p * a .j + h .p) (h .p) d in
-    (block-within h d (a .j) l r (one .0) (two .0), block-across h d (a .j) l r (one .1) (two .1))
+    (block-within h d (a .j) l r (one .0) (search (two .0)), block-across h d (a .j) l r (one .1) (search (two .1)))
 
 pub count-block-spec : {M : Type 1} → statement M
 count-block-spec =
@@ -118,17 +112,11 @@ count-block-spec =
     add-end
     (λ c. search needs)
     (λ c. search needs)
-    part-count-from-end
+    part-on-left-end
     (λ c. search needs)
     (λ c. search needs)
-    part-count-from-end-2
+    part-on-right-end
     count-from-requires
-    (λ c. search needs)
-    (λ c. search needs)
-    part-count-from-end-3
-    (λ c. search needs)
-    (λ c. search needs)
-    part-count-from-end-4
     count-from-requires-2
     (λ c. search needs)
     (λ c. search needs)

@@ -87,7 +87,7 @@ extern "C" {
 /* Rooms that are enough for every job. */
 enum { BENCH_WORDS = 2600, BENCH_TABLE = 2500, BENCH_VALUES = 50, BENCH_DEVIATIONS = 1300, BENCH_FILE = 6584, BENCH_FILE_SECOND = 16384, BENCH_TEXT = 65536 };
 
-/* `answer` of bench_judge; bench_analyse and bench_solve have more behind it. */
+/* `answer` of bench_judge and bench_judge_by_differences; bench_analyse and bench_solve have more behind it. */
 enum {
     BENCH_V = 0,  /* objects */
     BENCH_B = 1,  /* blocks */
@@ -199,9 +199,12 @@ uint64_t bench_company(size_t n, size_t flag, size_t p, size_t m, const uint8_t 
 uint64_t bench_opposition(size_t n, size_t flag, size_t p, size_t m, const uint8_t *blocks, size_t blocks_length,
                           uint64_t *table, size_t table_length);
 
-/* Judges whether a design is balanced. */
+/* Judges whether a design is balanced: by its two tables, and by the differences of its initial blocks, which takes less time. Both give the
+ * same answer. */
 uint64_t bench_judge(size_t n, size_t flag, size_t p, size_t m, const uint8_t *blocks, size_t blocks_length,
                      uint64_t *answer, size_t answer_length);
+uint64_t bench_judge_by_differences(size_t n, size_t flag, size_t p, size_t m, const uint8_t *blocks, size_t blocks_length,
+                                    uint64_t *answer, size_t answer_length);
 
 /* ---- groups. `answer` of bench_grouped, and of bench_group_base after four others. */
 enum {

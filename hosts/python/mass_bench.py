@@ -501,6 +501,17 @@ def judge(head: Head, blocks: Wholes) -> Parameters:
     return Parameters(*answer)
 
 
+def judge_by_differences(head: Head, blocks: Wholes) -> Parameters:
+    """The same judgement by the differences of the initial blocks, with no block developed. A whole job is judged so.
+
+    >>> judge_by_differences(Head(7, 1, 4, 1), [255, 1, 2, 4, 0, 3, 5, 6])
+    Parameters(v=8, b=7, r=7, p=4, l1=3, l2=4)
+    """
+    answer = _room(_U64, 6)
+    _call("bench_judge_by_differences", *_design(head, blocks), answer)
+    return Parameters(*answer)
+
+
 # ---- sets of blocks with groups
 
 

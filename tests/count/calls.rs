@@ -166,9 +166,8 @@ const CALLS: &[Call] = &[
     }),
     call!(bench_company(head blocks; table), [DESIGN], |asked| vec![table(pairs(asked.head.objects(), asked.blocks()).0)]),
     call!(bench_opposition(head blocks; table), [DESIGN], |asked| vec![table(pairs(asked.head.objects(), asked.blocks()).1)]),
-    call!(bench_judge(head blocks; answer), [DESIGN, BALANCE], |asked| {
-        vec![whole(&parameters(&asked.head, asked.blocks(), &asked.balance().expect("a balanced design")))]
-    }),
+    call!(bench_judge(head blocks; answer), [DESIGN, BALANCE], judgement),
+    call!(bench_judge_by_differences(head blocks; answer), [DESIGN, BALANCE], judgement),
     call!(bench_total(head blocks readings number; signed_slots), [DESIGN, READINGS, &[Test::Object]], |asked| vec![whole(&[totals(asked)[asked.number]])]),
     call!(bench_sum_of_squares(head readings; answer), [&[Test::Sizes], READINGS], |asked| vec![squares(&asked.wide_readings())]),
     call!(bench_sum_of_squared_totals(head blocks readings; answer), [DESIGN, READINGS], |asked| vec![squares(&totals(asked))]),
@@ -363,6 +362,11 @@ fn wide(number: i128) -> Vec<u64> {
 fn parameters(head: &Head, blocks: &[Block], balance: &Balance) -> [i128; 6] {
     let sizes = [head.objects(), blocks.len(), blocks[0].left.len()].map(|size| size as i128);
     [sizes[0], sizes[1], balance.appearances, sizes[2], balance.company, balance.opposition]
+}
+
+/// The judgement of a balanced design, by whichever call.
+fn judgement(asked: &Asked) -> Vec<Left> {
+    vec![whole(&parameters(&asked.head, asked.blocks(), &asked.balance().expect("a balanced design")))]
 }
 
 fn spread(results: &Results) -> Vec<u64> {

@@ -74,6 +74,18 @@ fn squares(n: usize, flag: usize) -> Job {
     Job::new(n, flag, p, left)
 }
 
+/// Squares against the other elements of the field of 49, with 1 + x² = 0: half of the objects a side.
+fn field_squares() -> Job {
+    let square = |at: u8| {
+        let (a, b) = (at % 7, at / 7);
+        (a * a + 6 * b * b) % 7 + 2 * a * b % 7 * 7
+    };
+    let squares: Vec<u8> = (1..49).map(square).collect();
+    let (mut left, right): (Vec<u8>, Vec<u8>) = (1..49).partition(|x| squares.contains(x));
+    left.extend(right);
+    Job::new(49, 2, 24, left)
+}
+
 /// The processor time of this thread in seconds: what other programs take is not in it.
 fn clock() -> f64 {
     extern "C" {
@@ -107,13 +119,17 @@ fn times<T, const K: usize>(calls: [&dyn Fn() -> T; K]) -> [f64; K] {
     least
 }
 
-fn judge_proved(job: &Job) -> Option<u64> {
+/// A judgement as the proved code makes it, and as plain Rust does.
+type Proved = fn(mass_bench::Head, &[u8]) -> Result<mass_bench::Parameters, mass_bench::Refusal>;
+type Plain = fn(Head, &[u8]) -> Result<plain::Parameters, plain::Refusal>;
+
+fn judge_proved(job: &Job, judge: Proved) -> Option<[u64; 6]> {
     let Head { n, flag, p, m } = job.head;
-    mass_bench::judge(mass_bench::Head { n, flag, p, m }, black_box(&job.blocks)).ok().map(|a| a.l2)
+    judge(mass_bench::Head { n, flag, p, m }, black_box(&job.blocks)).ok().map(|a| [a.v, a.b, a.r, a.p, a.l1, a.l2])
 }
 
-fn judge_plain(job: &Job) -> Option<u64> {
-    plain::judge(job.head, black_box(&job.blocks)).ok().map(|a| a.l2)
+fn judge_plain(job: &Job, judge: Plain) -> Option<[u64; 6]> {
+    judge(job.head, black_box(&job.blocks)).ok().map(|a| [a.v, a.b, a.r, a.p, a.l1, a.l2])
 }
 
 /// Both take rooms that are lent once, so that no allocation is measured.
@@ -135,35 +151,69 @@ fn solve_proved(job: &Job, rooms: &mut Rooms) -> Option<(u128, u64)> {
     (returned == 0).then_some((u128::from(answer[7]) << 64 | u128::from(answer[8]), answer[11]))
 }
 
-fn solve_plain(job: &Job, rooms: &mut Rooms) -> Option<(u128, u64)> {
+fn solve_plain<const TABLES: bool>(job: &Job, rooms: &mut Rooms) -> Option<(u128, u64)> {
     let Rooms { words, values, deviations } = rooms;
-    plain::solve(black_box(&job.file), words, values, deviations).ok().map(|s| (s.q, s.hundredths))
+    plain::solve::<TABLES>(black_box(&job.file), words, values, deviations).ok().map(|s| (s.q, s.hundredths))
+}
+
+/// What was measured of a job, in microseconds: by pair tables and by differences, proved and plain; a whole job, proved, plain by differences and plain by pair tables.
+struct Measured {
+    tables: [f64; 2],
+    differences: [f64; 2],
+    solve: [f64; 3],
+}
+
+fn measured(job: &Job) -> Measured {
+    let lent = [(); 3].map(|()| std::cell::RefCell::new(rooms()));
+    let proved = || solve_proved(job, &mut lent[0].borrow_mut());
+    let plain = || solve_plain::<false>(job, &mut lent[1].borrow_mut());
+    let plain_tables = || solve_plain::<true>(job, &mut lent[2].borrow_mut());
+    let judged = judge_proved(job, mass_bench::judge);
+    assert!(judged.is_some() && judged == judge_plain(job, plain::judge));
+    assert!(judged == judge_proved(job, mass_bench::judge_by_differences) && judged == judge_plain(job, plain::judge_by_differences));
+    assert!(proved().is_some() && proved() == plain() && proved() == plain_tables());
+    for other in &lent[1..] {
+        let (a, b) = (lent[0].borrow(), other.borrow());
+        assert!(a.words == b.words && a.values == b.values && a.deviations == b.deviations);
+    }
+    Measured {
+        tables: times([&|| judge_proved(job, mass_bench::judge), &|| judge_plain(job, plain::judge)]),
+        differences: times([&|| judge_proved(job, mass_bench::judge_by_differences), &|| judge_plain(job, plain::judge_by_differences)]),
+        solve: times([&proved, &plain, &plain_tables]),
+    }
+}
+
+fn sizes(job: &Job) -> String {
+    format!("| {} | {} | {}", job.objects(), job.head.m * job.head.n, job.head.p)
 }
 
 fn row(job: &Job) {
-    let (proved_rooms, plain_rooms) = (std::cell::RefCell::new(rooms()), std::cell::RefCell::new(rooms()));
-    let proved = || solve_proved(job, &mut proved_rooms.borrow_mut());
-    let plain = || solve_plain(job, &mut plain_rooms.borrow_mut());
-    assert!(judge_proved(job).is_some() && judge_proved(job) == judge_plain(job));
-    assert!(proved().is_some() && proved() == plain());
-    let (a, b) = (proved_rooms.borrow(), plain_rooms.borrow());
-    assert!(a.words == b.words && a.values == b.values && a.deviations == b.deviations);
-    drop((a, b));
-    let [jp, jr] = times([&|| judge_proved(job), &|| judge_plain(job)]);
-    let [sp, sr] = times([&proved, &plain]);
-    let (v, b, p) = (job.objects(), job.head.m * job.head.n, job.head.p);
-    println!("| {v} | {b} | {p} | {jp:.1} | {jr:.1} | {:.2} | {sp:.1} | {sr:.1} | {:.2} |", jp / jr, sp / sr);
+    let Measured { tables: [tp, tr], differences: [dp, dr], solve: [sp, sr, _] } = measured(job);
+    let ratios = [tp / tr, dp / dr, sp / sr];
+    println!("{} | {tp:.1} | {tr:.1} | {:.2} | {dp:.2} | {dr:.2} | {:.2} | {sp:.1} | {sr:.1} | {:.2} |", sizes(job), ratios[0], ratios[1], ratios[2]);
 }
 
 fn table(title: &str, jobs: Vec<Job>) {
-    println!("\n{title}\n\n| v | b | p | judge: proved | plain | ratio | solve: proved | plain | ratio |\n|---|---|---|---|---|---|---|---|---|");
+    println!("\n{title}\n\n| v | b | p | judge: proved | plain | ratio | by differences: proved | plain | ratio | solve: proved | plain | ratio |");
+    println!("|---|---|---|---|---|---|---|---|---|---|---|---|");
     jobs.iter().for_each(row);
+}
+
+/// One check against the other, and a whole job against plain Rust that goes by pair tables.
+fn checks(title: &str, jobs: Vec<Job>) {
+    println!("\n{title}\n\n| v | b | p | judge | by differences | times faster | plain by differences | solve | plain by differences | plain by tables | times faster than that |");
+    println!("|---|---|---|---|---|---|---|---|---|---|---|");
+    for job in &jobs {
+        let Measured { tables: [tp, _], differences: [dp, dr], solve: [sp, sr, st] } = measured(job);
+        println!("{} | {tp:.1} | {dp:.2} | {:.1} | {dr:.2} | {sp:.1} | {sr:.1} | {st:.1} | {:.1} |", sizes(job), tp / dp, st / sp);
+    }
 }
 
 fn main() {
     println!("Microseconds a call, the least of many. Plain: the same method by hand in Rust.");
     let a = Job::new(5, 0, 2, vec![1, 4, 2, 3]);
     let f = Job::new(13, 0, 2, vec![1, 12, 8, 5, 4, 9, 6, 7, 3, 10, 11, 2]);
+    checks("Two checks of 47, 48 and 49 objects, half of them a side", vec![squares(47, 0), squares(47, 1), field_squares()]);
     table("Proved against plain", vec![a, f, squares(47, 0), squares(47, 1), pairs(49, 0, 1), pairs(49, 1, 1)]);
     table("More blocks of 13 objects", [1, 2, 4, 8, 10].map(|times| pairs(13, 0, times)).into());
     table("More objects, one a side, each pair once", [5, 9, 17, 25, 33, 41, 49].map(|n| pairs(n, 0, 1)).into());

@@ -1,5 +1,5 @@
-//! The bench's own method, written by hand in plain Rust: what the proved code is measured against. Same words, same walk over the blocks, same counts of ones,
-//! same order of tests.
+//! The bench's own methods, written by hand in plain Rust: what the proved code is measured against. Same words, same walk over the blocks, same counts of ones,
+//! same counts of differences, same order of tests.
 
 #[derive(Clone, Copy)]
 pub struct Head {
@@ -86,17 +86,8 @@ fn offender(h: Head, blocks: &[u8]) -> usize {
     blocks.len()
 }
 
-fn side_word(h: Head, shift: usize, side: &[u8]) -> u64 {
-    let mut word = 0;
-    for &byte in side {
-        let object = if byte == 255 { h.n } else { plus(h, byte.into(), shift) };
-        word += 1 << object;
-    }
-    word
-}
-
-/// Develops the initial blocks: left word, right word, next shift.
-pub fn develop(h: Head, blocks: &[u8], words: &mut [u64]) -> Result<(), Refusal> {
+/// Why a block list is refused.
+fn clean(h: Head, blocks: &[u8]) -> Result<(), Refusal> {
     if !sized(h) {
         return Err((4, 0));
     }
@@ -107,9 +98,28 @@ pub fn develop(h: Head, blocks: &[u8], words: &mut [u64]) -> Result<(), Refusal>
     if at < blocks.len() {
         return Err((5, at));
     }
-    if words.len() < 2 * h.m * h.n {
-        return Err((10, 0));
+    Ok(())
+}
+
+/// The object that a byte names at a shift.
+fn object(h: Head, shift: usize, byte: u8) -> usize {
+    if byte == 255 {
+        h.n
+    } else {
+        plus(h, byte.into(), shift)
     }
+}
+
+fn side_word(h: Head, shift: usize, side: &[u8]) -> u64 {
+    let mut word = 0;
+    for &byte in side {
+        word += 1 << object(h, shift, byte);
+    }
+    word
+}
+
+/// The words of a clean list: left word, right word, next shift.
+fn write_words(h: Head, blocks: &[u8], words: &mut [u64]) {
     for j in 0..h.m {
         let block = &blocks[2 * h.p * j..2 * h.p * (j + 1)];
         for s in 0..h.n {
@@ -117,6 +127,15 @@ pub fn develop(h: Head, blocks: &[u8], words: &mut [u64]) -> Result<(), Refusal>
             words[2 * (j * h.n + s) + 1] = side_word(h, s, &block[h.p..]);
         }
     }
+}
+
+/// Develops the initial blocks.
+pub fn develop(h: Head, blocks: &[u8], words: &mut [u64]) -> Result<(), Refusal> {
+    clean(h, blocks)?;
+    if words.len() < 2 * h.m * h.n {
+        return Err((10, 0));
+    }
+    write_words(h, blocks, words);
     Ok(())
 }
 
@@ -160,6 +179,12 @@ fn even(company: &Table, opposition: &Table, v: usize) -> bool {
     true
 }
 
+/// The parameters where every two objects meet so often.
+fn parameters(h: Head, l1: u64, l2: u64) -> Parameters {
+    let v = h.objects() as u64;
+    Parameters { v, b: (h.m * h.n) as u64, r: (l2 - l1) * (v - 1), p: h.p as u64, l1, l2 }
+}
+
 /// The parameters of developed words that are balanced.
 fn judge_words(h: Head, words: &[u64]) -> Result<Parameters, Refusal> {
     let (v, b) = (h.objects(), h.m * h.n);
@@ -171,15 +196,42 @@ fn judge_words(h: Head, words: &[u64]) -> Result<Parameters, Refusal> {
     if !even(&company, &opposition, v) {
         return Err((6, 0));
     }
-    let (l1, l2) = (company[1][0], opposition[1][0]);
-    let r = (l2 - l1) * (v as u64 - 1);
-    Ok(Parameters { v: v as u64, b: b as u64, r, p: words[0].count_ones() as u64, l1, l2 })
+    Ok(parameters(h, company[1][0], opposition[1][0]))
 }
 
 pub fn judge(h: Head, blocks: &[u8]) -> Result<Parameters, Refusal> {
     let mut words = [0; 2600];
     develop(h, blocks, &mut words)?;
     judge_words(h, &words)
+}
+
+/// The shift that takes an element to 0.
+fn back(h: Head, x: usize) -> usize {
+    if h.flag < 2 {
+        return (h.n - x) % h.n;
+    }
+    (0..h.n).find(|&shift| plus(h, x, shift) == 0).unwrap_or(h.n)
+}
+
+/// The parameters of a balanced design, by the differences of its initial blocks: how often each object meets 0 and opposes it.
+pub fn judge_by_differences(h: Head, blocks: &[u8]) -> Result<Parameters, Refusal> {
+    clean(h, blocks)?;
+    let (mut within, mut across) = ([0; 50], [0; 50]);
+    for block in blocks.chunks_exact(2 * h.p) {
+        let (left, right) = block.split_at(h.p);
+        for (own, other) in [(left, right), (right, left)] {
+            for &y in own.iter().filter(|&&y| y != 255) {
+                let shift = back(h, y.into());
+                own.iter().for_each(|&x| within[object(h, shift, x)] += 1);
+                other.iter().for_each(|&x| across[object(h, shift, x)] += 1);
+            }
+        }
+    }
+    let v = h.objects();
+    if within[1..v].iter().any(|&l| l != within[1]) || across[1..v].iter().any(|&l| l != across[1]) {
+        return Err((6, 0));
+    }
+    Ok(parameters(h, within[1], across[1]))
 }
 
 /// A job worked out, beside what is laid into the lent rooms.
@@ -258,8 +310,8 @@ fn root(x: u128) -> u64 {
     low
 }
 
-/// Works a job file out into lent rooms.
-pub fn solve(bytes: &[u8], words: &mut [u64], values: &mut [i64], deviations: &mut [i64]) -> Result<Solved, Refusal> {
+/// Works a job file out into lent rooms: its design is judged by pair tables, or by differences.
+pub fn solve<const TABLES: bool>(bytes: &[u8], words: &mut [u64], values: &mut [i64], deviations: &mut [i64]) -> Result<Solved, Refusal> {
     let Held { head, third, set, sum } = fields(bytes)?;
     let (v, b) = (head.objects(), head.m * head.n);
     let mut readings = [0i32; 1300];
@@ -267,9 +319,14 @@ pub fn solve(bytes: &[u8], words: &mut [u64], values: &mut [i64], deviations: &m
         readings[k] = i32::from_be_bytes([y[0], y[1], y[2], y[3]]);
     }
     let readings = &readings[..b];
+    let blocks = &bytes[10..third];
     let mut developed = [0; 2600];
-    develop(head, &bytes[10..third], &mut developed).map_err(|(k, at)| (k, if k == 5 { 10 + at } else { at }))?;
-    let parameters = judge_words(head, &developed)?;
+    let judged = if TABLES {
+        develop(head, blocks, &mut developed).and_then(|()| judge_words(head, &developed))
+    } else {
+        judge_by_differences(head, blocks)
+    };
+    let parameters = judged.map_err(|(k, at)| (k, if k == 5 { 10 + at } else { at }))?;
     if set == 0 || set >> v != 0 || sum.unsigned_abs() > 1_000_000_000_000 {
         return Err((7, third));
     }
@@ -282,7 +339,11 @@ pub fn solve(bytes: &[u8], words: &mut [u64], values: &mut [i64], deviations: &m
     if words.len() < 2 * b || values.len() < v || deviations.len() < b {
         return Err((10, 0));
     }
-    words[..2 * b].copy_from_slice(&developed[..2 * b]);
+    if TABLES {
+        words[..2 * b].copy_from_slice(&developed[..2 * b]);
+    } else {
+        write_words(head, blocks, words);
+    }
     let mut totals = [0i64; 50];
     for k in 0..b {
         let y = readings[k] as i64;

@@ -143,6 +143,7 @@ const CALLS: &[Call] = rows! { job rooms:
     company(head, &job.blocks, &mut rooms.table);
     opposition(head, &job.blocks, &mut rooms.table);
     judge(head, &job.blocks, &mut rooms.answer);
+    judge_by_differences(head, &job.blocks, &mut rooms.answer);
     grouped(job.readings.len(), job.claims.len(), job.head.p, &job.list, &job.groups, &mut rooms.answer);
     group_base(head, &job.blocks, job.g, &mut rooms.words, &mut rooms.answer);
     total(head, &job.blocks, &job.readings, job.last_object, &mut rooms.signed);

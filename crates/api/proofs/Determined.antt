@@ -25,6 +25,9 @@ use Rattle.api.proofs.designs.bench_opposition.Reads as bench-oppositio
 use Rattle.api.proofs.designs.bench_judge as bench-judge
 use Rattle.api.proofs.designs.bench_judge.Kinds as bench-judge-kinds
 use Rattle.api.proofs.designs.bench_judge.Reads as bench-judge-reads
+use Rattle.api.proofs.designs.bench_judge_by_differences as bench-judge-by-differences
+use Rattle.api.proofs.designs.bench_judge_by_differences.Kinds as bench-judge-by-differences-kinds
+use Rattle.api.proofs.designs.bench_judge_by_differences.Reads as bench-judge-by-differences-reads
 use Rattle.api.proofs.deviations.bench_deviations as bench-deviations
 use Rattle.api.proofs.deviations.bench_deviations.Kinds as bench-deviations-kinds
 use Rattle.api.proofs.deviations.bench_deviations.Reads as bench-deviations-reads
@@ -168,6 +171,14 @@ module _ (κs : Lfts 2) (a : ArgsD bench-judge.signature κs) (r q : ResD bench-
       (r ≡ q)
       × (now (s .1 .1 .1 .1 .1 .0) ≡ now (t .1 .1 .1 .1 .1 .0))
   bench-judge-determined p e = (p .0 ∙ sym (e .0), p .1 ∙ sym (e .1))
+
+-- `bench_judge_by_differences`: the answer, `answer`
+module _ (κs : Lfts 2) (a : ArgsD bench-judge-by-differences.signature κs) (r q : ResD bench-judge-by-differences.signature κs)
+    (s t : AtExit (endedOf 2 bench-judge-by-differences-kinds.ps bench-judge-by-differences-kinds.r) κs) where
+  pub bench-judge-by-differences-determined : bench-judge-by-differences-reads.Post κs a r s → bench-judge-by-differences-reads.Post κs a q t →
+      (r ≡ q)
+      × (now (s .1 .1 .1 .1 .1 .0) ≡ now (t .1 .1 .1 .1 .1 .0))
+  bench-judge-by-differences-determined p e = (p .0 ∙ sym (e .0), p .1 ∙ sym (e .1))
 
 -- `bench_deviations`: the answer, `deviations`
 module _ (κs : Lfts 3) (a : ArgsD bench-deviations.signature κs) (r q : ResD bench-deviations.signature κs)

@@ -1,6 +1,7 @@
 // Calls on designs: n residues, flag, p objects a side, m initial blocks, and the block list, in which 255 is the fixed object.
 use balance::company;
 use balance::judge;
+use balance::judge_by_differences;
 use balance::opposition;
 use design::develop;
 use design::develop_initial;
@@ -122,4 +123,21 @@ pub extern "C" fn bench_judge(
 {
     let head = Head { n, flag, p, m };
     lay_judged(judge(head, blocks), answer)
+}
+
+// Judges a design by the differences of its initial blocks: the same answer, in less time.
+#[no_mangle]
+pub extern "C" fn bench_judge_by_differences(
+    n: usize,
+    flag: usize,
+    p: usize,
+    m: usize,
+    blocks: &[u8],
+    answer: &mut [u64],
+) -> u64
+    ensures { λ r. ⌜ r ≡ told (judgedCall (judged (headFrom n flag p m) (now (blocks .entry))) (now (answer .entry))) ⌝ }
+    ensures { λ _. ⌜ now (answer .exit) ≡ judgedLaid (judged (headFrom n flag p m) (now (blocks .entry))) (now (answer .entry)) ⌝ }
+{
+    let head = Head { n, flag, p, m };
+    lay_judged(judge_by_differences(head, blocks), answer)
 }

@@ -47,6 +47,8 @@ calls! {
     opposition = bench_opposition(n: usize, flag: usize, p: usize, m: usize, blocks: &[u8], table: &mut [u64],);
     /// Judges a design: v, b, r, p, L1, L2.
     judge = bench_judge(n: usize, flag: usize, p: usize, m: usize, blocks: &[u8], answer: &mut [u64],);
+    /// The same by the differences of the initial blocks.
+    judge_by_differences = bench_judge_by_differences(n: usize, flag: usize, p: usize, m: usize, blocks: &[u8], answer: &mut [u64],);
     /// The total of one object.
     total = bench_total(n: usize, flag: usize, p: usize, m: usize, blocks: &[u8], readings: &[i32], object: usize, signed_slots: &mut [i64],);
     /// The sum of the squared readings, in two slots: 2^64 times the first, the high word, and the second.

@@ -444,6 +444,20 @@ pub fn judge(head: Head, blocks: &[u8]) -> Result<Parameters, Refusal> {
     Ok(parameters(answer))
 }
 
+/// The same judgement by the differences of the initial blocks, with no block developed. A whole job is judged so.
+///
+/// ```
+/// # use mass_bench::{judge, judge_by_differences, Head};
+/// let (head, blocks) = (Head { n: 7, flag: 1, p: 4, m: 1 }, [255, 1, 2, 4, 0, 3, 5, 6]);
+/// assert_eq!(judge_by_differences(head, &blocks), judge(head, &blocks));
+/// ```
+pub fn judge_by_differences(head: Head, blocks: &[u8]) -> Result<Parameters, Refusal> {
+    let Head { n, flag, p, m } = head;
+    let mut answer = [0; 6];
+    refusal_in(calls::judge_by_differences(n, flag, p, m, blocks, &mut answer))?;
+    Ok(parameters(answer))
+}
+
 // ---- jobs: a design with its readings in development order, a restraint set (bit i is object i, two objects at least) and its accepted sum
 
 /// The total of one object: the readings with it on the left less those with it on the right. Balance is not asked.

@@ -62,12 +62,14 @@ fn pairs_are_counted() {
 
 #[test]
 fn designs_are_judged() {
-    assert_eq!(judge(A, &BLOCKS), Ok(Parameters { v: 5, b: 5, r: 4, p: 2, l1: 1, l2: 2 }));
-    let e = judge(Head { n: 7, flag: 1, p: 4, m: 1 }, &[255, 1, 2, 4, 0, 3, 5, 6]);
-    assert_eq!(e, Ok(Parameters { v: 8, b: 7, r: 7, p: 4, l1: 3, l2: 4 }));
-    assert_eq!(judge(C, &[0, 1]), refused(Reason::Unbalanced, 0));
-    assert_eq!(judge(C, &[0, 4]), refused(Reason::BadObject, 1));
-    assert_eq!(judge(Head { n: 51, ..C }, &[]), refused(Reason::BrokenSize, 0));
+    for judge in [judge, judge_by_differences] {
+        assert_eq!(judge(A, &BLOCKS), Ok(Parameters { v: 5, b: 5, r: 4, p: 2, l1: 1, l2: 2 }));
+        let e = judge(Head { n: 7, flag: 1, p: 4, m: 1 }, &[255, 1, 2, 4, 0, 3, 5, 6]);
+        assert_eq!(e, Ok(Parameters { v: 8, b: 7, r: 7, p: 4, l1: 3, l2: 4 }));
+        assert_eq!(judge(C, &[0, 1]), refused(Reason::Unbalanced, 0));
+        assert_eq!(judge(C, &[0, 4]), refused(Reason::BadObject, 1));
+        assert_eq!(judge(Head { n: 51, ..C }, &[]), refused(Reason::BrokenSize, 0));
+    }
 }
 
 // ---- jobs
@@ -325,12 +327,14 @@ fn rooms_and_slots_of_designs() {
     lent("company", WORD, &flat(company(A, &BLOCKS).unwrap()), |table| calls::company(n, flag, p, m, &BLOCKS, table));
     lent("opposition", WORD, &flat(opposition(A, &BLOCKS).unwrap()), |table| calls::opposition(n, flag, p, m, &BLOCKS, table));
     lent("judge", WORD, &[5, 5, 4, 2, 1, 2], |answer| calls::judge(n, flag, p, m, &BLOCKS, answer));
+    lent("judge_by_differences", WORD, &[5, 5, 4, 2, 1, 2], |answer| calls::judge_by_differences(n, flag, p, m, &BLOCKS, answer));
     let bad = [1, 4, 2, 4];
     stays("develop", WORD, 5, 3, |words| calls::develop(n, flag, p, m, &bad, words));
     stays("develop_initial", WORD, 5, 9, |words| calls::develop_initial(n, flag, p, m, &BLOCKS, 9, words));
     stays("company", WORD, 5, 3, |table| calls::company(n, flag, p, m, &bad, table));
     stays("opposition", WORD, 5, 3, |table| calls::opposition(n, flag, p, m, &bad, table));
     stays("judge", WORD, 6, 0, |answer| calls::judge(4, 0, 1, 1, &[0, 1], answer));
+    stays("judge_by_differences", WORD, 6, 0, |answer| calls::judge_by_differences(4, 0, 1, 1, &[0, 1], answer));
 }
 
 #[test]

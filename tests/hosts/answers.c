@@ -122,6 +122,7 @@ static uint64_t made(const char *call, const struct asked *a, struct rooms *r, F
     ROW(bench_company, (DESIGN, ROOM(table)), PUT(r->table, BENCH_TABLE))
     ROW(bench_opposition, (DESIGN, ROOM(table)), PUT(r->table, BENCH_TABLE))
     ROW(bench_judge, (DESIGN, ROOM(answer)), SLOTS(BENCH_JUDGE_SLOTS))
+    ROW(bench_judge_by_differences, (DESIGN, ROOM(answer)), SLOTS(BENCH_JUDGE_SLOTS))
     ROW(bench_grouped, (a->count, a->v, a->p, LIST(blocks), LIST(groups), ROOM(answer)), SLOTS(BENCH_GROUPED_SLOTS))
     ROW(bench_group_base, (DESIGN, a->g, ROOM(words), ROOM(answer)), PUT(r->words, 2 * b); SLOTS(BENCH_GROUP_SLOTS))
     ROW(bench_total, (WEIGHED, a->number, ROOM(signed_slots)), SIGNED(BENCH_TOTAL_SIGNED_SLOTS))

@@ -126,6 +126,7 @@ CALLS = {
     "bench_company": lambda a: table(bench.company(*a.design)),
     "bench_opposition": lambda a: table(bench.opposition(*a.design)),
     "bench_judge": lambda a: [bench.judge(*a.design)],
+    "bench_judge_by_differences": lambda a: [bench.judge_by_differences(*a.design)],
     "bench_grouped": lambda a: [bench.grouped(a.count, a.v, a.p, a.blocks, a.groups)],
     "bench_group_base": lambda a: (lambda made: [words(made.blocks), [*made[:4], *made.counts]])(bench.group_base(*a.design, a.g)),
     "bench_total": lambda a: [[bench.total(*a.weighed, a.number)]],

@@ -152,6 +152,7 @@ fn rooms(call: &str, a: &Asked) -> Result<Rooms, No> {
         "bench_company" => vec![company(a.head(), &a.blocks())?.concat()],
         "bench_opposition" => vec![opposition(a.head(), &a.blocks())?.concat()],
         "bench_judge" => vec![parameters(judge(a.head(), &a.blocks())?)],
+        "bench_judge_by_differences" => vec![parameters(judge_by_differences(a.head(), &a.blocks())?)],
         "bench_grouped" => vec![counts(grouped(a.number("count"), a.number("v"), a.number("p"), &a.blocks(), &a.list("groups"))?)],
         "bench_group_base" => {
             let set = group_base(a.head(), &a.blocks(), a.number("g"))?;

@@ -1,11 +1,13 @@
 //! The program's verbs on many files, against the count: what it prints, and how what it says on standard error begins.
 //!
+//! `list FILE`: jobs of both editions, half of them damaged, and for an unbalanced design the two pairs that are named.
 //! `check JOB SHEET`: jobs of both editions, some refused, with sheets as text: a listing's own lines, in other order and among others, and wrong in one place.
 //! `practice JOB START WIDTH VALUE..`: jobs of both editions, some refused, with numbers in their ranges, out of them, written in more digits than they need, and words that are none.
 //! `pool FILE..`: files of one v and beta, some damaged or of another kind, one to more than 64, with names of any bytes.
 
 use crate::damage;
-use crate::job::{self, Job, Refusal};
+use crate::design;
+use crate::job::{self, Head, Job, Refusal};
 use crate::listing;
 use crate::parts;
 use crate::pooled::{self, Pool};
@@ -44,7 +46,7 @@ struct Trial {
     expected: Expected,
 }
 
-const VERBS: [(&str, fn(u64, u64, &mut Seed) -> Trial); 3] = [("check", check), ("practice", practise), ("pool", pool)];
+const VERBS: [(&str, fn(u64, u64, &mut Seed) -> Trial); 4] = [("list", list), ("check", check), ("practice", practise), ("pool", pool)];
 
 /// A file by a plain name.
 fn plain(name: &str, bytes: Vec<u8>) -> (Vec<u8>, Vec<u8>) {
@@ -139,6 +141,44 @@ fn job_file(seed: u64, index: u64, source: &mut Seed) -> (Vec<u8>, Result<Job, R
     (file, read)
 }
 
+/// A refused job: its line, and the sentence with its number and place and, where it is unbalanced, the pairs.
+fn refused_job(file: &[u8], refusal: Refusal) -> Expected {
+    let line = listing::refused(refusal);
+    let mut holds = format!("{}: ", line.trim_end());
+    if refusal.number == 6 {
+        holds += &format!("the developed design is unbalanced: {}\n", pairs(file));
+    }
+    Expected { holds, ..printed(line) }
+}
+
+/// The first pair, row by row, that does not meet as the objects 0 and 1 do, and how often both do.
+fn pairs(file: &[u8]) -> String {
+    let first = if file[0] == second::EDITION[0] { &file[second::EDITION.len()..] } else { file };
+    let head = Head { n: first[3].into(), flag: first[4].into(), p: first[5].into(), m: first[6].into() };
+    let v = head.objects();
+    let (company, opposition) = design::pairs(v, &design::develop(&head, &first[10..10 + 2 * head.p * head.m]));
+    let times = |count: i128| if count == 1 { "1 time".to_string() } else { format!("{count} times") };
+    for (i, j) in (0..v).flat_map(|i| (i + 1..v).map(move |j| (i, j))) {
+        for (meet, table) in [("share a side", &company), ("oppose", &opposition)] {
+            if table[i][j] != table[0][1] {
+                return format!("objects {i} and {j} {meet} {}, objects 0 and 1 {}", times(table[i][j]), times(table[0][1]));
+            }
+        }
+    }
+    panic!("an unbalanced design whose pairs all meet alike");
+}
+
+/// A job.
+fn list(seed: u64, index: u64, source: &mut Seed) -> Trial {
+    let (file, read) = job_file(seed, 3 * index + 2, source);
+    let (about, expected) = match read {
+        Ok(job) => ("a listing", printed(listing::accepted(&job, &solve(&job)))),
+        Err(refusal) if refusal.number == 6 => ("an unbalanced job", refused_job(&file, refusal)),
+        Err(refusal) => ("a job that is refused", refused_job(&file, refusal)),
+    };
+    Trial { about, files: vec![plain("job", file)], words: vec![], expected }
+}
+
 /// A job and its sheet.
 fn check(seed: u64, index: u64, source: &mut Seed) -> Trial {
     let (file, read) = job_file(seed, index, source);
@@ -147,7 +187,7 @@ fn check(seed: u64, index: u64, source: &mut Seed) -> Trial {
         Err(refusal) => {
             let a = job::read(&crate::stored::A).expect("example A");
             let sheet = Lines::of(&a, &solve(&a)).text(source.once_in(2));
-            ("a job that is refused", sheet, printed(listing::refused(refusal)))
+            ("a job that is refused", sheet, refused_job(&file, refusal))
         }
     };
     Trial { about, files: vec![plain("job", file), plain("sheet", text.into_bytes())], words: vec![], expected }
@@ -182,7 +222,7 @@ fn practise(seed: u64, index: u64, source: &mut Seed) -> Trial {
     }
     let refused = |number| printed(format!("refused {number} 0\n"));
     let (about, expected) = match read {
-        Err(refusal) => ("a job that is refused", printed(listing::refused(refusal))),
+        Err(refusal) => ("a job that is refused", refused_job(&file, refusal)),
         Ok(_) if asked.truths.len() != v => ("too few or too many true values", refused(3)),
         Ok(_) if far => ("a number out of every range", refused(16)),
         Ok(_) if !asked.in_range() => ("a true value or a width out of its range", refused(16)),

@@ -6,8 +6,10 @@ use crate::files::in_front;
 use crate::files::is_second;
 use crate::files::looked_at;
 use crate::files::read_argument;
+use crate::refusals::refuse;
 use crate::said::put_line;
-use crate::said::say_refused;
+use crate::verbs::Verb;
+use crate::verbs::say_misused;
 use analysis::publishing::column;
 use fields::held;
 use libc::STDERR_FILENO;
@@ -28,10 +30,7 @@ ghost use lib.ListN.{length, take};
 // Reads both files, a byte more of the sheet than the largest has, and checks them.
 pub(crate) fn check(count: usize) {
     if count != 4 {
-        io::write_all(
-            STDERR_FILENO,
-            b"bench: check takes two files: check JOB SHEET\n",
-        );
+        say_misused(Verb::Check);
         return;
     }
     let mut file = [0u8; 16385];
@@ -96,7 +95,7 @@ fn check_claims(file: &[u8], claims: &[i64], spread: SheetSpread) {
             say_differs(file, claims, spread, at);
         }
         Checked::Unchecked(number, place) => {
-            say_refused(number, place);
+            refuse(file, number, place);
         }
     }
 }

@@ -3,6 +3,7 @@ use crate::files::is_second;
 use printing::put_number;
 use printing::put_text;
 use records::Solved;
+use records::Verdict;
 
 // The job worked out, of either edition.
 pub(crate) fn solve(file: &[u8], values: &mut [i64; 50]) -> Solved {
@@ -12,6 +13,19 @@ pub(crate) fn solve(file: &[u8], values: &mut [i64; 50]) -> Solved {
         return job::solve_second(file, &mut words, values, &mut deviations);
     }
     job::solve(file, &mut words, values, &mut deviations)
+}
+
+// The verdict of reading a job, of either edition.
+pub(crate) fn read_verdict(file: &[u8]) -> Verdict {
+    if is_second(file) {
+        let read = job::read_second(file);
+        let job = read.job;
+        let verdict = job.verdict;
+        return verdict;
+    }
+    let read = job::read(file);
+    let verdict = read.verdict;
+    verdict
 }
 
 // Degrees of freedom, and the hundredths or none.

@@ -4,11 +4,18 @@
 mod check;
 mod figures;
 mod files;
+mod listed;
 mod numbers;
+mod pairs;
 mod pooling;
 mod practising;
+mod refusals;
 mod said;
+mod verbs;
 
+use crate::verbs::Verb;
+use crate::verbs::say_no_verb;
+use crate::verbs::verb_argument;
 use libc::STDERR_FILENO;
 use libc::STDIN_FILENO;
 use libc::STDOUT_FILENO;
@@ -50,21 +57,14 @@ fn put_text(bytes: &[u8], text: &mut [u8]) -> usize
 
 // What the first of the arguments names.
 fn run_verb(count: usize) {
-    let mut name = io::buffer();
-    let length = os::arg(1, &mut name);
-    if sheets::same(&name[..length], b"check") {
-        check::check(count);
-        return;
+    let verb = verb_argument(1);
+    match verb {
+        Verb::List => listed::list(count),
+        Verb::Check => check::check(count),
+        Verb::Practice => practising::practise(count),
+        Verb::Pool => pooling::pool(count),
+        Verb::Help => verbs::help(count),
+        Verb::Version => verbs::version(count),
+        Verb::None => say_no_verb(1),
     }
-    if sheets::same(&name[..length], b"practice") {
-        practising::practise(count);
-        return;
-    }
-    if sheets::same(&name[..length], b"pool") {
-        pooling::pool(count);
-        return;
-    }
-    io::write_all(STDERR_FILENO, b"bench: there is no verb ");
-    io::write_all(STDERR_FILENO, &name[..length]);
-    io::write_all(STDERR_FILENO, b"; there are check, practice and pool\n");
 }

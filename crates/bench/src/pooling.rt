@@ -4,9 +4,11 @@ use crate::figures::put_spread;
 use crate::figures::solve;
 use crate::files::in_front;
 use crate::files::read_argument;
+use crate::refusals::refuse;
+use crate::refusals::say_refused;
 use crate::said::put_line;
-use crate::said::say_refused;
-use libc::STDERR_FILENO;
+use crate::verbs::Verb;
+use crate::verbs::say_misused;
 use printing::put_byte;
 use printing::put_escaped;
 use printing::put_number;
@@ -41,10 +43,7 @@ pub struct LaidAll {
 pub(crate) fn pool(count: usize) {
     let jobs = jobs_of(count);
     if jobs == 0 {
-        io::write_all(
-            STDERR_FILENO,
-            b"bench: pool takes files of the first edition, up to 64: pool FILE..\n",
-        );
+        say_misused(Verb::Pool);
         return;
     }
     let mut bytes = [0u8; 524288];
@@ -232,10 +231,10 @@ fn say_pooled(spreading: Spreading) {
 // A refusal, with the file that it speaks of; 18 speaks of none.
 fn say_refused_job(number: u8, place: usize, i: usize) {
     if number == 18 {
-        say_refused(number, place);
+        refuse(b"", number, place);
         return;
     }
-    io::write_all(STDERR_FILENO, b"refused: nothing was pooled\n");
+    say_refused(b"", number, place);
     let mut text = [0u8; 16640];
     let word_end = put_text(&mut text, 0, b"refused");
     let number_end = put_number(&mut text, word_end, number as u64);

@@ -1,15 +1,16 @@
 // The verb `practice JOB START WIDTH VALUE..`: a practice job, as a file of the first edition, with the design and the restraint set of a job of either
 // edition. The file goes to standard output.
+use crate::figures::read_verdict;
 use crate::files::fields_start;
 use crate::files::in_front;
-use crate::files::is_second;
 use crate::files::looked_at;
 use crate::files::read_argument;
 use crate::numbers::number_argument;
+use crate::refusals::refuse;
 use crate::said::put_line;
-use crate::said::say_refused;
+use crate::verbs::Verb;
+use crate::verbs::say_misused;
 use fields::held;
-use libc::STDERR_FILENO;
 use practice::practice_file;
 use records::Head;
 use records::Verdict;
@@ -23,10 +24,7 @@ const VALUES_AT: usize = 5;
 // Reads the job and the numbers, of the true values one more than a job has objects: a longer list is of the wrong length all the same.
 pub(crate) fn practise(count: usize) {
     if count < VALUES_AT {
-        io::write_all(
-            STDERR_FILENO,
-            b"bench: practice takes a job, a start number, a width and a true value for each object: practice JOB START WIDTH VALUE..\n",
-        );
+        say_misused(Verb::Practice);
         return;
     }
     let mut file = [0u8; 16385];
@@ -141,22 +139,9 @@ fn practise_on(file: &[u8], start: u64, width: u64, truths: &[i32]) {
             write_practice(&file[from..], start, width, truths);
         }
         Verdict::Refused(number, place) => {
-            say_refused(number, place);
+            refuse(file, number, place);
         }
     }
-}
-
-// The verdict of reading a job, of either edition.
-fn read_verdict(file: &[u8]) -> Verdict {
-    if is_second(file) {
-        let read = job::read_second(file);
-        let job = read.job;
-        let verdict = job.verdict;
-        return verdict;
-    }
-    let read = job::read(file);
-    let verdict = read.verdict;
-    verdict
 }
 
 // Writes the practice job over the design and the restraint set that stand in four fields.
@@ -202,7 +187,7 @@ fn write_over(
             put_line(&out, written.length);
         }
         Verdict::Refused(number, place) => {
-            say_refused(number, place);
+            refuse(b"", number, place);
         }
     }
 }

@@ -349,6 +349,14 @@ uint64_t bench_listing(const uint8_t *bytes, size_t bytes_length,
                        uint8_t *out, size_t out_length,
                        uint64_t *answer, size_t answer_length);
 
+/* Writes the certificate of a job file to the front of `out`: a text of fixed width with the design, for each weight its number, whether it is a standard,
+ * its value and its standard uncertainty in counts, the sum over the standards beside M, and the spread; or the line of its refusal, as bench_listing does.
+ * The call itself is refused by 10 alone; BENCH_CERTIFICATE bytes are always enough. */
+enum { BENCH_CERTIFICATE = 8192 };
+uint64_t bench_certificate(const uint8_t *bytes, size_t bytes_length,
+                           uint8_t *out, size_t out_length,
+                           uint64_t *answer, size_t answer_length);
+
 /* ---- files of the second edition, at most 16,384 bytes: the field 10 00 01 02 (hexadecimal), the four fields, then optional fields with
  * rising tags from 80 hexadecimal on. Tag 80 holds the names, eight bytes for each object, filled with spaces, in object order; others are
  * kept and skipped. */
@@ -389,6 +397,12 @@ uint64_t bench_to_first(const uint8_t *bytes, size_t bytes_length,
 uint64_t bench_listing_second(const uint8_t *bytes, size_t bytes_length,
                               uint8_t *out, size_t out_length,
                               uint64_t *answer, size_t answer_length);
+
+/* Writes the certificate of a file to the front of `out`, as bench_certificate does, with the names: a byte other than ! to ~, and # and \, as \xNN, and
+ * without the spaces that fill a name up. */
+uint64_t bench_certificate_second(const uint8_t *bytes, size_t bytes_length,
+                                  uint8_t *out, size_t out_length,
+                                  uint64_t *answer, size_t answer_length);
 
 /* ---- sheets of another laboratory: for each object of a job the hundredths of a count that are claimed for it, and a claimed spread: where `has_spread`
  * is 0 the sheet claims that there is none, and the next two are not looked at; else the spread `spread` with `freedom` degrees of freedom.

@@ -38,7 +38,7 @@ SONAME = "libmass_bench.so.0"
 MOST = 1 << 19
 
 # Room that is enough for every job, as in bench.h.
-_WORDS, _TABLE, _VALUES, _DEVIATIONS, _FILE, _FILE_SECOND, _TEXT = 2600, 2500, 50, 1300, 6584, 16384, 65536
+_WORDS, _TABLE, _VALUES, _DEVIATIONS, _FILE, _FILE_SECOND, _TEXT, _CERTIFICATE = 2600, 2500, 50, 1300, 6584, 16384, 65536, 8192
 
 
 def _loaded() -> ctypes.CDLL:
@@ -755,6 +755,15 @@ def listing(file: Wholes) -> str:
     return _put("bench_listing", _TEXT, _file(file)).decode("ascii")
 
 
+def certificate(file: Wholes) -> str:
+    """The certificate of a job file, a text of fixed width, or the line of its refusal.
+
+    >>> print(certificate(write(Head(5, 0, 2, 1), [1, 4, 2, 3], {0, 1}, 7, [11, -3, 4, 1, -8])).splitlines()[3])
+    0                                        yes                        -0.30                  0.71
+    """
+    return _put("bench_certificate", _CERTIFICATE, _file(file)).decode("ascii")
+
+
 # ---- files of the second edition
 
 
@@ -819,6 +828,16 @@ def listing_second(file: Wholes) -> str:
     'refused 12 3\\n'
     """
     return _put("bench_listing_second", _TEXT, _file(file)).decode("ascii")
+
+
+def certificate_second(file: Wholes) -> str:
+    """The certificate of a file of the second edition, with its names, or the line of its refusal.
+
+    >>> named = write_second(Head(3, 0, 1, 1), [0, 1], {0, 1}, 7, [1, 2, 3], [b"1 kg a  ", b"1 kg b  ", b"1 kg c  "])
+    >>> certificate_second(named).splitlines()[4].split()[:3]
+    ['1', '1\\\\x20kg\\\\x20b', 'yes']
+    """
+    return _put("bench_certificate_second", _CERTIFICATE, _file(file)).decode("ascii")
 
 
 # ---- another laboratory's sheet

@@ -226,6 +226,9 @@ const CALLS: &[Call] = &[
     call!(bench_listing(bytes; out answer), [], |asked| {
         text(asked.file().map_or_else(listing::refused, |solved| listing::accepted(&solved.job, &solved.results)).into_bytes())
     }),
+    call!(bench_certificate(bytes; out answer), [], |asked| {
+        text(asked.file().map_or_else(listing::refused, |solved| certificate::accepted(&solved.job, &solved.results, &[])).into_bytes())
+    }),
     call!(bench_read_second(second; signed_slots answer), [&[Test::Second]], |asked| {
         let (file, _) = accepted_second(asked);
         let job = &file.job;
@@ -246,6 +249,10 @@ const CALLS: &[Call] = &[
     call!(bench_to_first(second; out answer), [&[Test::Second, Test::Optional]], |asked| text(second::to_first(&asked.second).expect("no optional field"))),
     call!(bench_listing_second(second; out answer), [], |asked| {
         text(asked.second_file().map_or_else(listing::refused, |(file, results)| listing::accepted(&file.job, results)).into_bytes())
+    }),
+    call!(bench_certificate_second(second; out answer), [], |asked| {
+        let names = |file: &second::Second| file.names.map_or(&[][..], |at| &asked.second[at..at + 8 * file.job.head.objects()]);
+        text(asked.second_file().map_or_else(listing::refused, |(file, results)| certificate::accepted(&file.job, results, names(file))).into_bytes())
     }),
     call!(bench_grouped(grouping; answer), [GROUPING], |asked| vec![whole(&four(asked.grouping.counts().expect("constant counts")))]),
     call!(bench_group_base(head blocks size; words answer), [DESIGN, BALANCE, &[Test::GroupSize]], |asked| {

@@ -7,6 +7,12 @@ use denote.Ref.{now}
 use borrow.Fn.World.{ArgsD, ResD}
 use borrow.Fn.Kinds.{endedOf}
 use denote.Triple.Clauses.{AtExit}
+use Rattle.api.proofs.certificates.bench_certificate as bench-certificate
+use Rattle.api.proofs.certificates.bench_certificate.Kinds as bench-certificate-kinds
+use Rattle.api.proofs.certificates.bench_certificate.Reads as bench-certificate-reads
+use Rattle.api.proofs.certificates.bench_certificate_second as bench-certificate-second
+use Rattle.api.proofs.certificates.bench_certificate_second.Kinds as bench-certificate-second-kinds
+use Rattle.api.proofs.certificates.bench_certificate_second.Reads as bench-certificate-second-reads
 use Rattle.api.proofs.designs.bench_pairs_refusal as bench-pairs-refusal
 use Rattle.api.proofs.designs.bench_pairs_refusal.Kinds as bench-pairs-refusal-kinds
 use Rattle.api.proofs.designs.bench_pairs_refusal.Reads as bench-pairs-refusal-reads
@@ -124,6 +130,24 @@ use Rattle.api.proofs.totals.bench_sum_of_squares.Reads as bench-sum-of
 use Rattle.api.proofs.totals.bench_sum_of_squared_totals as bench-sum-of-squared-totals
 use Rattle.api.proofs.totals.bench_sum_of_squared_totals.Kinds as bench-sum-of-squared-totals-kinds
 use Rattle.api.proofs.totals.bench_sum_of_squared_totals.Reads as bench-sum-of-squared-totals-reads
+
+-- `bench_certificate`: the answer, `out`, `answer`
+module _ (κs : Lfts 3) (a : ArgsD bench-certificate.signature κs) (r q : ResD bench-certificate.signature κs)
+    (s t : AtExit (endedOf 3 bench-certificate-kinds.ps bench-certificate-kinds.r) κs) where
+  pub bench-certificate-determined : bench-certificate-reads.Post κs a r s → bench-certificate-reads.Post κs a q t →
+      (r ≡ q)
+      × (now (s .1 .0) ≡ now (t .1 .0))
+      × (now (s .1 .1 .0) ≡ now (t .1 .1 .0))
+  bench-certificate-determined p e = (p .0 ∙ sym (e .0), p .1 .0 ∙ sym (e .1 .0), p .1 .1 ∙ sym (e .1 .1))
+
+-- `bench_certificate_second`: the answer, `out`, `answer`
+module _ (κs : Lfts 3) (a : ArgsD bench-certificate-second.signature κs) (r q : ResD bench-certificate-second.signature κs)
+    (s t : AtExit (endedOf 3 bench-certificate-second-kinds.ps bench-certificate-second-kinds.r) κs) where
+  pub bench-certificate-second-determined : bench-certificate-second-reads.Post κs a r s → bench-certificate-second-reads.Post κs a q t →
+      (r ≡ q)
+      × (now (s .1 .0) ≡ now (t .1 .0))
+      × (now (s .1 .1 .0) ≡ now (t .1 .1 .0))
+  bench-certificate-second-determined p e = (p .0 ∙ sym (e .0), p .1 .0 ∙ sym (e .1 .0), p .1 .1 ∙ sym (e .1 .1))
 
 -- `bench_pairs_refusal`: the answer
 module _ (κs : Lfts 1) (a : ArgsD bench-pairs-refusal.signature κs) (r q : ResD bench-pairs-refusal.signature κs)

@@ -66,7 +66,7 @@ use Rattle.meaning.specs.File.{
 }
 use Rattle.meaning.specs.Writing.{fileLength, writeVerdict}
 use Rattle.meaning.specs.Text.{textOf}
-use Rattle.meaning.specs.Certificate.{uncertaintyAnswer}
+use Rattle.meaning.specs.Certificate.{uncertaintyAnswer, certificateOf, certificateOf2}
 use Rattle.meaning.specs.Edition2.{
   fileLimit2,
   edition,
@@ -94,9 +94,9 @@ use Rattle.slots.specs.Answers.{fieldCall, readCall, secondCall, writtenCall, l
 use Rattle.laws.proofs.Chains.{refused-is-not}
 use Rattle.slots.proofs.Numbered.{Numbered, numbered-test, numbered-then}
 use Rattle.api.specs.Jobs.{analyseCall}
-use Rattle.api.specs.Files.{solveCall, fileWritten, fileListed}
+use Rattle.api.specs.Files.{solveCall, fileWritten, fileListed, fileCertified}
 use Rattle.api.specs.Practising.{practiceWritten}
-use Rattle.api.specs.Second.{secondSolveCall, secondWritten, movedToSecond, movedToFirst, secondListed}
+use Rattle.api.specs.Second.{secondSolveCall, secondWritten, movedToSecond, movedToFirst, secondListed, secondCertified}
 
 -- ---- the tests
 
@@ -294,6 +294,10 @@ module _ (s : List ℕ) where
       let tests = numbered-then file-numbered (rooms-numbered (headOf s) (length words) (length values) (length deviations)) in
       numbered-then (numbered-then tests (room-numbered (length answer) 13)) (room-numbered (length real) 1)
 
+  pub certificate-numbered : (out answer : List ℕ) → Numbered (listedCall (fileCertified s out) answer)
+  unfolding listedCall
+  certificate-numbered out answer = numbered-then (room-numbered (length out) (length (certificateOf s))) (room-numbered (length answer) 1)
+
   pub listing-numbered : (out answer : List ℕ) → Numbered (listedCall (fileListed s out) answer)
   unfolding listedCall
   listing-numbered out answer = numbered-then (room-numbered (length out) (length (textOf s))) (room-numbered (length answer) 1)
@@ -353,6 +357,10 @@ module _ (s : List ℕ) where
   to-first-numbered out answer =
       let tests = numbered-then second-numbered (numbered-test (leb (length s) (optionalAt s)) 12 (optionalAt s)) in
       numbered-then (numbered-then tests (room-numbered (length out) (length (fourOf s)))) (room-numbered (length answer) 1)
+
+  pub certificate-second-numbered : (out answer : List ℕ) → Numbered (listedCall (secondCertified s out) answer)
+  unfolding listedCall
+  certificate-second-numbered out answer = numbered-then (room-numbered (length out) (length (certificateOf2 s))) (room-numbered (length answer) 1)
 
   pub listing-second-numbered : (out answer : List ℕ) → Numbered (listedCall (secondListed s out) answer)
   unfolding listedCall

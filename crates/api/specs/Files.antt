@@ -14,6 +14,7 @@ use Rattle.meaning.specs.Calls.{given, solvedUnder, wordsUnder, valuesUnder, de
 use Rattle.meaning.specs.File.{headOf, blocksOf, readingsOf, setOf, sumOf, solveVerdict}
 use Rattle.meaning.specs.Writing.{writtenAnswer, writtenAfter}
 use Rattle.meaning.specs.Text.{listedAnswer, listedAfter}
+use Rattle.meaning.specs.Certificate.{certifiedAnswer, certifiedAfter}
 use Rattle.slots.specs.Answers.{solvedCall, writtenCall, listedCall}
 
 -- a file worked out
@@ -49,3 +50,10 @@ module _ (s out : List ℕ) where
 
   abbrev pub listingText : List ℕ → List ℕ
   listingText answer = given (listedCall fileListed answer) (listedAfter s out) out
+
+  -- and certified
+  abbrev pub fileCertified : Listed
+  fileCertified = certifiedAnswer s (length out)
+
+  abbrev pub certificateText : List ℕ → List ℕ
+  certificateText answer = given (listedCall fileCertified answer) (certifiedAfter s out) out

@@ -14,6 +14,7 @@ use Rattle.meaning.specs.Calls.{given, wordsUnder, valuesUnder, deviationsUnder
 use Rattle.meaning.specs.File.{headOf, blocksOf, readingsOf, setOf, sumOf}
 use Rattle.meaning.specs.Edition2.{fourOf, solveAnswer2, listedAnswer2, listedAfter2, writtenAnswer2, writtenAfter2}
 use Rattle.meaning.specs.Edition2.{toSecondAnswer, toSecondAfter, toFirstAnswer, toFirstAfter}
+use Rattle.meaning.specs.Certificate.{certifiedAnswer2, certifiedAfter2}
 use Rattle.slots.specs.Answers.{solvedCall, writtenCall, listedCall}
 
 -- a file worked out
@@ -62,3 +63,10 @@ module _ (s out : List ℕ) where
 
   abbrev pub secondText : List ℕ → List ℕ
   secondText answer = given (listedCall secondListed answer) (listedAfter2 s out) out
+
+  -- and certified
+  abbrev pub secondCertified : Listed
+  secondCertified = certifiedAnswer2 s (length out)
+
+  abbrev pub secondCertificate : List ℕ → List ℕ
+  secondCertificate answer = given (listedCall secondCertified answer) (certifiedAfter2 s out) out

@@ -7,21 +7,25 @@ use native.Mathlib.Omega.{arith}
 use lib.Dec.{ltb, lit<}
 use borrow.Author.Tests.{lt-ltb}
 use lib.IntN.{pos, _*ℤ_}
+use lib.ListN.{length}
 use Rattle.records.specs.declared.Verdict.{Verdict}
+use Rattle.records.specs.declared.Verdict.the-variants.{Accepted, Refused}
 use Rattle.records.specs.declared.Uncertainty.the-variants.{Stated, Unstated}
 use Rattle.meaning.specs.Design.{objects}
-use Rattle.meaning.specs.Analysis.{restrained, vbeta, denominatorOf, factor, qOf, freedom}
+use Rattle.meaning.specs.Analysis.{member, restrained, vbeta, denominatorOf, factor, qOf, freedom}
 use Rattle.meaning.specs.Publishing.{published, float, Near}
 use Rattle.meaning.specs.Refusals.{_⨾_, accepted, clean, inBalance, restraint, inReach}
 use Rattle.meaning.specs.Calls.{slices, contents, jobVerdict, valueVerdict}
+use Rattle.meaning.specs.File.{headOf, blocksOf, readingsOf, setOf, sumOf, readVerdict}
 use Rattle.meaning.specs.Text.{textOf}
-use Rattle.meaning.specs.Edition2.{fourOf, namesAt, textOf2}
+use Rattle.meaning.specs.Edition2.{fourOf, namesAt, readVerdict2, textOf2}
 use Rattle.meaning.specs.Certificate.{
   leastOver,
   uncertaintyHundredths,
   statedWith,
   uncertaintyOf,
   nameFrom,
+  weightLine,
   certificateUnder,
   certificateOf,
   certificateOf2,
@@ -30,6 +34,8 @@ use Rattle.laws.proofs.Chains.{Job as Good, opened, accepts, test-yes, given-ye
 use Rattle.laws.proofs.Files.{file-job}
 use Rattle.laws.proofs.Edition2.{file-job2}
 use Rattle.laws.proofs.Column.{job-adds-up}
+use Rattle.laws.proofs.Sizes.{published-most}
+use Rattle.laws.proofs.Lengths.{refused-length}
 use Rattle.arithmetic.proofs.Uncertainties.{
   InRange,
   job-in-range,
@@ -40,6 +46,7 @@ use Rattle.arithmetic.proofs.Uncertainties.{
   hundredths-small,
 }
 use Rattle.arithmetic.proofs.Floats.{float-near}
+use Rattle.demands.proofs.Columns.{hundredthsIn, line-wide, named-few, certificate-most}
 use Rattle.demands.specs.Job.{Job, jobIn, v, verdictOf}
 use Rattle.demands.specs.Certificate.{u, reach, asked, StandardUncertainty, UncertaintyRefused, Certificates}
 
@@ -117,6 +124,22 @@ module _ (j : Job) (e : verdictOf j ≡ accepted) where
   pub adds-up : restrained (v j) w (published h d y w M) ≡ pos 100 *ℤ M
   adds-up = job-adds-up h d y w M good
 
+-- the hundredths of an uncertainty are no wider than their column
+stated-few : (k f : ℕ) → (0 < f → k < 2 ^ 53) → hundredthsIn (statedWith k f) < 10 ^ 18
+stated-few k zero l = omega arith
+stated-few k (suc f) l = let few = l (omega arith) in omega arith
+
+pub columns-stand : (j : Job) → verdictOf j ≡ accepted → (s : List ℕ) (at i : ℕ) → i < v j →
+    length (weightLine i (nameFrom s at i) (member (j .set) i) (published (j .head) (j .initial) (j .readings) (j .set) (j .sum) i)
+    (uncertaintyOf (j .head) (j .initial) (j .readings) (j .set) i)) ≡ 96
+unfolding uncertaintyOf
+columns-stand j e s at i l =
+    let g = good j e in
+    let x = published (j .head) (j .initial) (j .readings) (j .set) (j .sum) i in
+    line-wide i (nameFrom s at i) (member (j .set) i) x (statedWith (u j i) (freedom (j .head))) (omega (arith, g .measures .design .sizes .objects-most)) (named-few s at i)
+    (omega (arith, published-most (j .head) (j .initial) (j .readings) (j .set) (j .sum) g i))
+    (stated-few (u j i) (freedom (j .head)) (λ f. hundredths-small _ _ _ _ _ (range j e i) f))
+
 pub uncertainty-refused : (j : Job) → UncertaintyRefused j
 uncertainty-refused j = record {
   as-the-value = λ i. refl;
@@ -125,6 +148,14 @@ uncertainty-refused j = record {
 }
 
 -- ---- certificates
+
+-- the text for the four fields of a file, with names of any file
+short : (four s : List ℕ) (at : ℕ) (x : Verdict) → (x ≡ accepted → readVerdict four ≡ accepted) → length (certificateUnder x four (nameFrom s at)) ≤ 8192
+short four s at Accepted e =
+    let a = file-job four (e refl) .1 in
+    certificate-most (headOf four) (blocksOf four) (readingsOf four) (setOf four) (sumOf four) (nameFrom s at)
+    (good (jobIn four) a .measures .design .sizes .objects-most) (columns-stand (jobIn four) a s at)
+short four s at (Refused k place) e = omega (arith, refused-length k place)
 
 pub certificates-of : (s : List ℕ) → Certificates s
 unfolding certificateOf certificateOf2 textOf textOf2
@@ -135,4 +166,8 @@ certificates-of s = record {
   certified-second = λ e. ap (λ (x : Verdict). certificateUnder x (fourOf s) (nameFrom s (namesAt s))) e;
   adds-up = λ e. adds-up (jobIn s) (file-job s e .1);
   adds-up-second = λ e. adds-up (jobIn (fourOf s)) (file-job (fourOf s) (file-job2 s e .1) .1);
+  certificate-is-short = short s s 0 (readVerdict s) (λ e. e);
+  certificate-is-short-second = short (fourOf s) s (namesAt s) (readVerdict2 s) (λ e. file-job2 s e .1);
+  columns-stand = λ e i l. columns-stand (jobIn s) (file-job s e .1) s 0 i l;
+  columns-stand-second = λ e i l. columns-stand (jobIn (fourOf s)) (file-job (fourOf s) (file-job2 s e .1) .1) s (namesAt s) i l;
 }

@@ -8,6 +8,7 @@ pub mod Whole
 pub mod Answers
 pub mod Published
 pub mod Uncertainty
+pub mod Columns
 pub mod Certificate
 pub mod Writing
 pub mod Fields

@@ -1,12 +1,13 @@
 -- THE STANDARD UNCERTAINTY AND THE CERTIFICATE. Certificates state the standard uncertainty of each weight: the least whole number u of hundredths that is not
 -- below 100 times the spread's exact standard deviation times the root of the variance factor, so that it is never understated; none where f is 0. The
--- certificate is one text for every file, and the figure below its standards is the accepted sum. Assumes nothing.
+-- certificate is one text for every file, of fixed width, and the figure below its standards is the accepted sum. Assumes nothing.
 use mathlib.Core.List.{List}
 use mathlib.Core.Path.{_≡_}
 use Prim.Native.Nat.{ℕ, _-_, _*_, _≤_, _<_}
 use lib.IntN.{pos, _*ℤ_}
+use lib.ListN.{length}
 use Rattle.records.specs.declared.Uncertainty.the-variants.{Stated, Unstated}
-use Rattle.meaning.specs.Analysis.{restrained, vbeta, denominatorOf, factor, qOf, freedom}
+use Rattle.meaning.specs.Analysis.{member, restrained, vbeta, denominatorOf, factor, qOf, freedom}
 use Rattle.meaning.specs.Publishing.{published, float, Near}
 use Rattle.meaning.specs.Refusals.{accepted, refused}
 use Rattle.meaning.specs.Calls.{valueAnswer}
@@ -18,6 +19,7 @@ use Rattle.meaning.specs.Certificate.{
   uncertaintyOf,
   uncertaintyAnswer,
   nameFrom,
+  weightLine,
   certificateText,
   certificateOf,
   certificateOf2,
@@ -72,6 +74,11 @@ StandardUncertaintyCalls j = (verdictOf j ≡ accepted → StandardUncertainty j
 abbrev textOfJob : Job → (ℕ → List ℕ) → List ℕ
 textOfJob j name = certificateText (j .head) (j .initial) (j .readings) (j .set) (j .sum) name
 
+-- the line of its object i
+abbrev lineOf : Job → (ℕ → List ℕ) → ℕ → List ℕ
+lineOf j name i = weightLine i (name i) (member (j .set) i) (published (j .head) (j .initial) (j .readings) (j .set) (j .sum) i)
+    (uncertaintyOf (j .head) (j .initial) (j .readings) (j .set) i)
+
 -- the figure below the standards, their published hundredths added, is the one of 100·M
 abbrev AddsUp : Job → Type 0
 AddsUp j = restrained (v j) (j .set) (published (j .head) (j .initial) (j .readings) (j .set) (j .sum)) ≡ pos 100 *ℤ j .sum
@@ -86,3 +93,9 @@ pub record Certificates (s : List ℕ) : Type 0 where
   -- The sum over the standards' column is M exactly
   pub adds-up : readVerdict s ≡ accepted → AddsUp (jobIn s)
   pub adds-up-second : readVerdict2 s ≡ accepted → AddsUp (jobIn (fourOf s))
+  -- The columns stand: whatever its name, value and uncertainty are, the line of a weight has 95 characters and its end
+  pub columns-stand : readVerdict s ≡ accepted → (i : ℕ) → i < v (jobIn s) → length (lineOf (jobIn s) (nameFrom s 0) i) ≡ 96
+  pub columns-stand-second : readVerdict2 s ≡ accepted → (i : ℕ) → i < v (jobIn (fourOf s)) → length (lineOf (jobIn (fourOf s)) (nameFrom s (namesAt s)) i) ≡ 96
+  -- No certificate is longer than 8,192 bytes
+  pub certificate-is-short : length (certificateOf s) ≤ 8192
+  pub certificate-is-short-second : length (certificateOf2 s) ≤ 8192

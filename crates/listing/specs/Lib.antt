@@ -1,2 +1,3 @@
 -- What the lines and the text are, from what was worked out.
 pub mod Sheet
+pub mod Certified

@@ -1,8 +1,15 @@
-// The listing of a job file. The face: the text of any byte string, put into lent room, read as a file of the first edition or of the second.
+// The listing and the certificate of a job file. The face: either text of any byte string, put into lent room, read as a file of the first edition or of
+// the second.
+
+mod certified;
+mod certifying;
+mod columns;
 mod lines;
 mod second;
 mod text;
 mod whole;
 
+pub use certified::certificate;
+pub use certified::certificate_second;
 pub use second::listing_second;
 pub use whole::listing;

@@ -90,6 +90,8 @@ calls! {
     write = bench_write(n: usize, flag: usize, p: usize, m: usize, blocks: &[u8], set: u64, sum: i64, readings: &[i32], out: &mut [u8], answer: &mut [u64],);
     /// Writes the text for a job file: how many bytes.
     listing = bench_listing(bytes: &[u8], out: &mut [u8], answer: &mut [u64],);
+    /// Writes the certificate of a job file; how many bytes.
+    certificate = bench_certificate(bytes: &[u8], out: &mut [u8], answer: &mut [u64],);
     /// Reads a file of the second edition: as [`read`], and where the names start, 0 for none.
     read_second = bench_read_second(bytes: &[u8], signed_slots: &mut [i64], answer: &mut [u64],);
     /// Works a file of the second edition out: as [`analyse`].
@@ -103,6 +105,8 @@ calls! {
     to_first = bench_to_first(bytes: &[u8], out: &mut [u8], answer: &mut [u64],);
     /// Writes the text for a file of the second edition: how many bytes.
     listing_second = bench_listing_second(bytes: &[u8], out: &mut [u8], answer: &mut [u64],);
+    /// Writes the certificate of a file of the second edition, with its names; how many bytes.
+    certificate_second = bench_certificate_second(bytes: &[u8], out: &mut [u8], answer: &mut [u64],);
     /// Judges any blocks with respect to groups: l11, l21, l12, l22.
     grouped = bench_grouped(count: usize, v: usize, p: usize, blocks: &[u8], groups: &[u8], answer: &mut [u64],);
     /// The grouped set of a design, in 2b words: v, b, r, p, l11, l21, l12, l22.

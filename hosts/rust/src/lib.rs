@@ -39,6 +39,8 @@ pub const FILE: usize = 6584;
 pub const FILE_SECOND: usize = 16384;
 /// Bytes enough for the text of every job.
 pub const TEXT: usize = 65536;
+/// Room that is enough for every certificate.
+pub const CERTIFICATE: usize = 8192;
 
 // The one table of the reasons: what is named, by which number of the request's table, and in which words (README.md).
 macro_rules! reasons {
@@ -719,6 +721,21 @@ pub fn listing(bytes: &[u8]) -> Result<String, Refusal> {
     Ok(String::from_utf8(out).expect("a listing is ASCII"))
 }
 
+/// The certificate of a job file, a text of fixed width: the design, for each weight whether it is a standard, its value and its standard uncertainty in
+/// counts, the sum over the standards beside M, and the spread; or the line of its refusal. With [`CERTIFICATE`] bytes of room it is never refused.
+///
+/// ```
+/// # use mass_bench::{certificate, write, Head};
+/// let file = write(Head { n: 5, flag: 0, p: 2, m: 1 }, &[1, 4, 2, 3], 0b11, 7, &[11, -3, 4, 1, -8])?;
+/// let weights = certificate(&file)?.lines().skip(3).take(5).map(|line| line[51..].split_whitespace().collect::<Vec<_>>().join(" ")).collect::<Vec<_>>();
+/// assert_eq!(weights, ["-0.30 0.71", "7.30 0.71", "1.90 1.23", "0.50 1.23", "5.10 1.23"]);
+/// # Ok::<(), mass_bench::Refusal>(())
+/// ```
+pub fn certificate(bytes: &[u8]) -> Result<String, Refusal> {
+    let out = put(CERTIFICATE, |out, answer| calls::certificate(bytes, out, answer))?;
+    Ok(String::from_utf8(out).expect("a certificate is ASCII"))
+}
+
 // ---- files of the second edition
 
 /// Reads a file of the second edition.
@@ -791,6 +808,16 @@ pub fn to_first(bytes: &[u8]) -> Result<Vec<u8>, Refusal> {
 pub fn listing_second(bytes: &[u8]) -> Result<String, Refusal> {
     let out = put(TEXT, |out, answer| calls::listing_second(bytes, out, answer))?;
     Ok(String::from_utf8(out).expect("a listing is ASCII"))
+}
+
+/// The certificate of a file of the second edition, with its names, or the line of its refusal.
+///
+/// ```
+/// assert_eq!(mass_bench::certificate_second(&[0x10, 0, 1, 3]), Ok("refused 12 3\n".to_string()));
+/// ```
+pub fn certificate_second(bytes: &[u8]) -> Result<String, Refusal> {
+    let out = put(CERTIFICATE, |out, answer| calls::certificate_second(bytes, out, answer))?;
+    Ok(String::from_utf8(out).expect("a certificate is ASCII"))
 }
 
 // What a call put into room of `room` bytes, as many as it says.

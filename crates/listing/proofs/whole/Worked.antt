@@ -117,7 +117,7 @@ module _ (s : List ℕ) where
     verdict = solveVerdict s (length words) (length values) (length deviations)
 
     -- such rooms are enough for every file
-    rooms-enough : verdict ≡ readVerdict s
+    pub rooms-enough : verdict ≡ readVerdict s
     unfolding solveVerdict rooms
     rooms-enough = by (readVerdict s) refl
       where
@@ -172,7 +172,7 @@ module _ (s : List ℕ) where
     verdict2 = solveVerdict2 s (length words) (length values) (length deviations)
 
     -- the rooms are enough, as they are for the four fields
-    rooms-enough2 : verdict2 ≡ readVerdict2 s
+    pub rooms-enough2 : verdict2 ≡ readVerdict2 s
     unfolding solveVerdict2 solveVerdict
     rooms-enough2 = by (readVerdict2 s) refl
       where

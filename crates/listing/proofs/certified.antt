@@ -1,0 +1,2 @@
+-- What was worked out gives the certificate of the file.
+pub mod Standing

@@ -1,0 +1,2 @@
+-- What a text leaves of its column.
+pub mod Filling

@@ -59,7 +59,7 @@
  *    83 KB | bench_judge, bench_grouped
  *    72 KB | bench_uncertainty_of
  *    62 KB | bench_company, bench_opposition
- *    46 KB | bench_listing, bench_listing_second, bench_check_file, bench_check_second, bench_pool
+ *    46 KB | bench_listing, bench_listing_second, bench_certificate, bench_certificate_second, bench_check_file, bench_check_second, bench_pool
  *    40 KB | bench_values, bench_value_of, bench_published, bench_deviation_of, bench_q, bench_spread, bench_check_parts
  *    33 KB | bench_practice_file
  *    29 KB | bench_deviations, bench_practice

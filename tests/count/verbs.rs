@@ -1,10 +1,12 @@
 //! The program's verbs on many files, against the count: what it prints, and how what it says on standard error begins.
 //!
 //! `list FILE`: jobs of both editions, half of them damaged, and for an unbalanced design the two pairs that are named.
+//! `certificate FILE`: such jobs, with names of any bytes.
 //! `check JOB SHEET`: jobs of both editions, some refused, with sheets as text: a listing's own lines, in other order and among others, and wrong in one place.
 //! `practice JOB START WIDTH VALUE..`: jobs of both editions, some refused, with numbers in their ranges, out of them, written in more digits than they need, and words that are none.
 //! `pool FILE..`: files of one v and beta, some damaged or of another kind, one to more than 64, with names of any bytes.
 
+use crate::certificate;
 use crate::damage;
 use crate::design;
 use crate::job::{self, Head, Job, Refusal};
@@ -46,7 +48,7 @@ struct Trial {
     expected: Expected,
 }
 
-const VERBS: [(&str, fn(u64, u64, &mut Seed) -> Trial); 4] = [("list", list), ("check", check), ("practice", practise), ("pool", pool)];
+const VERBS: [(&str, fn(u64, u64, &mut Seed) -> Trial); 5] = [("list", list), ("certificate", certificate), ("check", check), ("practice", practise), ("pool", pool)];
 
 /// A file by a plain name.
 fn plain(name: &str, bytes: Vec<u8>) -> (Vec<u8>, Vec<u8>) {
@@ -131,14 +133,39 @@ impl Lines {
     }
 }
 
-/// A job's file in either edition, whole or damaged, and its job where it has one.
+/// A job's file in either edition, whole or damaged, and its job where it has one. In the second edition it may have names and other optional fields.
 fn job_file(seed: u64, index: u64, source: &mut Seed) -> (Vec<u8>, Result<Job, Refusal>) {
     let bytes = if index % 6 == 5 { damage::seeded(seed, index).bytes } else { whole(source) };
     let edition = source.once_in(3);
-    let file = if edition { second::with_names(&bytes, &[]) } else { bytes };
+    let file = if edition { with_fields(&bytes, source) } else { bytes };
     let seen = if edition { &file[..file.len().min(second::LIMIT + 1)] } else { &file[..file.len().min(listing::READ_LIMIT)] };
     let read = if file.first() == Some(&second::EDITION[0]) { second::read(seen).map(|read| read.job) } else { job::read(seen) };
     (file, read)
+}
+
+/// A file of the second edition, mostly with names, some of them of bytes that break a line or a column, and with other fields.
+fn with_fields(first: &[u8], source: &mut Seed) -> Vec<u8> {
+    let mut names = vec![];
+    if let Ok(job) = job::read(first) {
+        let kind = source.below(4);
+        let (any, odd) = (kind == 1, [b' ', b'#', b'\\', b'\n', b'!', b'~', 0x7f, 0x80, 0]);
+        for object in 0..if kind == 0 { 0 } else { job.head.objects() } {
+            match source.below(4) {
+                0 => names.extend(b"        "),
+                1 => names.extend((0..8).map(|_| source.pick(&odd))),
+                _ if any => names.extend(source.next().to_be_bytes()),
+                _ => names.extend(format!("{:<8}", format!("brass-{object}")).into_bytes()),
+            }
+        }
+    }
+    let mut file = second::with_names(first, &names);
+    let mut tag = second::NAMES;
+    while tag < 250 && source.once_in(3) {
+        tag += 1 + source.below(4) as u8;
+        let body: Vec<u8> = (0..source.pick(&[0, 1, 7, 300])).map(|_| source.next() as u8).collect();
+        file.extend(second::field(tag, &body));
+    }
+    file
 }
 
 /// A refused job: its line, and the sentence with its number and place and, where it is unbalanced, the pairs.
@@ -174,6 +201,21 @@ fn list(seed: u64, index: u64, source: &mut Seed) -> Trial {
     let (about, expected) = match read {
         Ok(job) => ("a listing", printed(listing::accepted(&job, &solve(&job)))),
         Err(refusal) if refusal.number == 6 => ("an unbalanced job", refused_job(&file, refusal)),
+        Err(refusal) => ("a job that is refused", refused_job(&file, refusal)),
+    };
+    Trial { about, files: vec![plain("job", file)], words: vec![], expected }
+}
+
+/// A job, with its names.
+fn certificate(seed: u64, index: u64, source: &mut Seed) -> Trial {
+    let (file, read) = job_file(seed, 3 * index + 2, source);
+    let (about, expected) = match read {
+        Ok(job) => {
+            let names = if file[0] == second::EDITION[0] { second::read(&file).expect("a job").names } else { None };
+            let names = names.map_or(&[][..], |at| &file[at..at + 8 * job.head.objects()]);
+            let about = if names.is_empty() { "a certificate" } else { "a certificate with names" };
+            (about, printed(certificate::accepted(&job, &solve(&job), names)))
+        }
         Err(refusal) => ("a job that is refused", refused_job(&file, refusal)),
     };
     Trial { about, files: vec![plain("job", file)], words: vec![], expected }
@@ -227,7 +269,7 @@ fn practise(seed: u64, index: u64, source: &mut Seed) -> Trial {
         Ok(_) if far => ("a number out of every range", refused(16)),
         Ok(_) if !asked.in_range() => ("a true value or a width out of its range", refused(16)),
         Ok(job) => {
-            let first = if file[0] == second::EDITION[0] { &file[second::EDITION.len()..] } else { &file };
+            let first = if file[0] == second::EDITION[0] { &file[second::EDITION.len()..second::read(&file).expect("a job").optional] } else { &file };
             let design = parts::parts_of(first).expect("the parts of a job");
             ("a practice job", Expected { printed: asked.file(design, &job.blocks), begins: "", holds: String::new() })
         }

@@ -4,13 +4,13 @@
 mod check;
 mod figures;
 mod files;
-mod listed;
 mod numbers;
 mod pairs;
 mod pooling;
 mod practising;
 mod refusals;
 mod said;
+mod texts;
 mod verbs;
 
 use crate::verbs::Verb;
@@ -59,7 +59,8 @@ fn put_text(bytes: &[u8], text: &mut [u8]) -> usize
 fn run_verb(count: usize) {
     let verb = verb_argument(1);
     match verb {
-        Verb::List => listed::list(count),
+        Verb::List => texts::print_text(verb, count),
+        Verb::Certificate => texts::print_text(verb, count),
         Verb::Check => check::check(count),
         Verb::Practice => practising::practise(count),
         Verb::Pool => pooling::pool(count),

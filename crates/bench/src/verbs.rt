@@ -8,6 +8,7 @@ use printing::put_text;
 // What a first word names.
 pub enum Verb {
     List,
+    Certificate,
     Check,
     Practice,
     Pool,
@@ -20,6 +21,9 @@ pub enum Verb {
 pub(crate) fn verb_named(name: &[u8]) -> Verb {
     if sheets::same(name, b"list") {
         return Verb::List;
+    }
+    if sheets::same(name, b"certificate") {
+        return Verb::Certificate;
     }
     if sheets::same(name, b"check") {
         return Verb::Check;
@@ -50,6 +54,7 @@ pub(crate) fn verb_argument(i: usize) -> Verb {
 fn put_takes(text: &mut [u8], at: usize, verb: Verb) -> usize {
     match verb {
         Verb::List => put_text(text, at, b"bench list FILE"),
+        Verb::Certificate => put_text(text, at, b"bench certificate FILE"),
         Verb::Check => put_text(text, at, b"bench check FILE SHEET"),
         Verb::Practice => put_text(text, at, b"bench practice FILE START WIDTH VALUE.."),
         Verb::Pool => put_text(text, at, b"bench pool FILE.."),
@@ -66,6 +71,11 @@ fn put_does(text: &mut [u8], at: usize, verb: Verb) -> usize {
             text,
             at,
             b"the listing of a job; a refusal is said in words too",
+        ),
+        Verb::Certificate => put_text(
+            text,
+            at,
+            b"the certificate of a job: each weight with its value and its standard uncertainty in counts, and the spread",
         ),
         Verb::Check => put_text(
             text,
@@ -99,6 +109,11 @@ fn put_more(text: &mut [u8], at: usize, verb: Verb) -> usize {
             text,
             at,
             b"FILE is a job of either edition. Ends with 1 where it is refused.\n",
+        ),
+        Verb::Certificate => put_text(
+            text,
+            at,
+            b"FILE is a job of either edition; in the second the weights have names. Ends with 1 where it is refused.\n",
         ),
         Verb::Check => put_text(
             text,
@@ -134,7 +149,8 @@ fn put_verb(text: &mut [u8], at: usize, verb: Verb) -> usize {
 fn put_verbs(text: &mut [u8], at: usize) -> usize {
     let none_end = put_verb(text, at, Verb::None);
     let list_end = put_verb(text, none_end, Verb::List);
-    let check_end = put_verb(text, list_end, Verb::Check);
+    let certificate_end = put_verb(text, list_end, Verb::Certificate);
+    let check_end = put_verb(text, certificate_end, Verb::Check);
     let practice_end = put_verb(text, check_end, Verb::Practice);
     let pool_end = put_verb(text, practice_end, Verb::Pool);
     let help_end = put_verb(text, pool_end, Verb::Help);

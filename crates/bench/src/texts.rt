@@ -1,4 +1,5 @@
-// The verb `list FILE`: the listing of a job of either edition, and the sentence of its refusal.
+// The verbs that print a text of a job of either edition: `list FILE` its listing, `certificate FILE` its certificate. For a refused job either prints the
+// line of the refusal, and says its sentence.
 use crate::figures::read_verdict;
 use crate::files::in_front;
 use crate::files::is_second;
@@ -10,10 +11,10 @@ use crate::verbs::Verb;
 use crate::verbs::say_misused;
 use records::Verdict;
 
-// Reads the file and prints what the request says of it.
-pub(crate) fn list(count: usize) {
+// Reads the file and prints the text of a verb.
+pub(crate) fn print_text(verb: Verb, count: usize) {
     if count != 3 {
-        say_misused(Verb::List);
+        say_misused(verb);
         return;
     }
     let mut file = [0u8; 16385];
@@ -23,18 +24,26 @@ pub(crate) fn list(count: usize) {
     }
     let looked_at = looked_at(&file, of_file.length);
     let end = in_front(&file, looked_at);
-    list_job(&file[..end]);
+    print_text_of(verb, &file[..end]);
 }
 
-// The listing, and the sentence beside it. 64 KiB are room for every text.
-fn list_job(file: &[u8]) {
+// The text, and the sentence beside it. 64 KiB are room for every text.
+fn print_text_of(verb: Verb, file: &[u8]) {
     let mut text = [0u8; 65536];
-    let length = put_listing(file, &mut text);
+    let length = put_text_of(verb, file, &mut text);
     put_line(&text, length);
     say_verdict(file);
 }
 
-// The call for the edition of the job.
+// The text of a verb, and its length.
+fn put_text_of(verb: Verb, file: &[u8], text: &mut [u8]) -> usize {
+    match verb {
+        Verb::Certificate => put_certificate(file, text),
+        _ => put_listing(file, text),
+    }
+}
+
+// The listing, by the call for the edition of the job.
 fn put_listing(file: &[u8], text: &mut [u8]) -> usize {
     if is_second(file) {
         let listed = listing::listing_second(file, text);
@@ -44,8 +53,18 @@ fn put_listing(file: &[u8], text: &mut [u8]) -> usize {
     listed.length
 }
 
+// The certificate.
+fn put_certificate(file: &[u8], text: &mut [u8]) -> usize {
+    if is_second(file) {
+        let listed = listing::certificate_second(file, text);
+        return listed.length;
+    }
+    let listed = listing::certificate(file, text);
+    listed.length
+}
+
 // The sentence, where the job is refused.
-pub(crate) fn say_verdict(file: &[u8]) {
+fn say_verdict(file: &[u8]) {
     let verdict = read_verdict(file);
     match verdict {
         Verdict::Accepted => {}

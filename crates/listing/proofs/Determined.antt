@@ -7,12 +7,16 @@ use denote.Ref.{now}
 use borrow.Fn.World.{ArgsD, ResD}
 use borrow.Fn.Kinds.{endedOf}
 use denote.Triple.Clauses.{AtExit}
+use Rattle.algebra.proofs.Writing.{wrote-determines}
 use Rattle.listing.proofs.certified.certificate as certificate
 use Rattle.listing.proofs.certified.certificate.Kinds as certificate-kinds
 use Rattle.listing.proofs.certified.certificate.Reads as certificate-reads
 use Rattle.listing.proofs.certified.certificate_second as certificate-second
 use Rattle.listing.proofs.certified.certificate_second.Kinds as certificate-second-kinds
 use Rattle.listing.proofs.certified.certificate_second.Reads as certificate-second-reads
+use Rattle.listing.proofs.lines.put_refused as put-refused
+use Rattle.listing.proofs.lines.put_refused.Kinds as put-refused-kinds
+use Rattle.listing.proofs.lines.put_refused.Reads as put-refused-reads
 use Rattle.listing.proofs.second.listing_second as listing-second
 use Rattle.listing.proofs.second.listing_second.Kinds as listing-second-kinds
 use Rattle.listing.proofs.second.listing_second.Reads as listing-second-reads
@@ -35,6 +39,14 @@ module _ (κs : Lfts 2) (a : ArgsD certificate-second.signature κs) (r q : ResD
       (r ≡ q)
       × (now (s .1 .0) ≡ now (t .1 .0))
   certificate-second-determined p e = (p .0 ∙ sym (e .0), p .1 ∙ sym (e .1))
+
+-- `put_refused`: `out`, the place
+module _ (κs : Lfts 1) (a : ArgsD put-refused.signature κs) (r q : ResD put-refused.signature κs)
+    (s t : AtExit (endedOf 1 put-refused-kinds.ps put-refused-kinds.r) κs) where
+  pub put-refused-determined : put-refused-reads.Post κs a r s → put-refused-reads.Post κs a q t →
+      (now (s .0) ≡ now (t .0))
+      × (r ≡ q)
+  put-refused-determined p e = wrote-determines p e
 
 -- `listing_second`: the answer, `out`
 module _ (κs : Lfts 2) (a : ArgsD listing-second.signature κs) (r q : ResD listing-second.signature κs)

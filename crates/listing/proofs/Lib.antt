@@ -1,2 +1,3 @@
--- That each promise determines its outcome.
+-- What a text leaves in lent room, and that each promise determines its outcome.
+pub mod Room
 pub mod Determined

@@ -86,7 +86,7 @@ pub(crate) fn put_design(out: &mut [u8], at: usize, parameters: Parameters) -> u
 }
 
 // A refusal: its number and its place.
-pub(crate) fn put_refused(out: &mut [u8], at: usize, number: u8, place: usize) -> usize
+pub fn put_refused(out: &mut [u8], at: usize, number: u8, place: usize) -> usize
     ensures { λ r. ⌜ Wrote (now (out .entry)) at (refusedLine number place) (now (out .exit)) r ⌝ }
 {
     let word_end = put_text(out, at, b"refused");

@@ -5,7 +5,7 @@ use native.Mathlib.Omega.{arith}
 use denote.Ref.{now}
 use lib.ListN.{length}
 use mir.Facts.{toZ-ofZ}
-use Rattle.listing.proofs.text.Room.{no-room, in-room}
+use Rattle.listing.proofs.Room.{no-room, in-room}
 use Rattle.listing.proofs.certifying.certify.Statement.{statement}
 use Rattle.listing.proofs.certifying.certify.Tie as tie
 

@@ -4,7 +4,7 @@ use Prim.Native.Nat.{_<_}
 use native.Mathlib.Omega.{arith}
 use denote.Ref.{now}
 use lib.ListN.{length}
-use Rattle.listing.proofs.text.Room.{no-room, in-room}
+use Rattle.listing.proofs.Room.{no-room, in-room}
 use Rattle.listing.proofs.text.render.Statement.{statement}
 use Rattle.listing.proofs.text.render.Tie as tie
 

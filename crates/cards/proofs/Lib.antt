@@ -1,0 +1,2 @@
+-- That each promise determines its outcome.
+pub mod Determined

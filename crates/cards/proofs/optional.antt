@@ -1,0 +1,2 @@
+-- Laws of the lines of optional fields.
+pub mod Parts

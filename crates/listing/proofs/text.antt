@@ -1,2 +1,0 @@
--- A text into lent room.
-pub mod Room

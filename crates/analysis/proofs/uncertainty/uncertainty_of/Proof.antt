@@ -29,8 +29,9 @@ returns-2 c =
     let s = c .before .before .before in
     let e = s .before .before in
     let v = e .before .before in
-    search (states _ _ _ _ _ _ (v .value-of .result) (s .spread .result) (valued v) (s .spread .ensures) (sym (e .before .is-refused .ensures) ∙ e .if1 .left) _
-    (c .uncertainty-from .ensures))
+    let a = start v .args in
+    search (states (a .head) (now (a .blocks)) (now (a .readings)) (a .set) (a .sum) (a .object) (v .value-of .result) (s .spread .result) (valued v)
+    (s .spread .ensures) (sym (e .before .is-refused .ensures) ∙ e .if1 .left) (c .uncertainty-from .result) (search (c .uncertainty-from .ensures)))
 
 pub uncertainty-of-spec : {M : Type 1} → statement M
 uncertainty-of-spec =

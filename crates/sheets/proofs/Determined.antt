@@ -10,6 +10,9 @@ use denote.Triple.Clauses.{AtExit}
 use Rattle.sheets.proofs.claimed.claimed_spread as claimed-spread
 use Rattle.sheets.proofs.claimed.claimed_spread.Kinds as claimed-spread-kinds
 use Rattle.sheets.proofs.claimed.claimed_spread.Reads as claimed-spread-reads
+use Rattle.sheets.proofs.numerals.number as number
+use Rattle.sheets.proofs.numerals.number.Kinds as number-kinds
+use Rattle.sheets.proofs.numerals.number.Reads as number-reads
 use Rattle.sheets.proofs.numerals.signed as signed
 use Rattle.sheets.proofs.numerals.signed.Kinds as signed-kinds
 use Rattle.sheets.proofs.numerals.signed.Reads as signed-reads
@@ -29,6 +32,13 @@ module _ (κs : Lfts 0) (a : ArgsD claimed-spread.signature κs) (r q : ResD cla
   pub claimed-spread-determined : claimed-spread-reads.Post κs a r s → claimed-spread-reads.Post κs a q t →
       r ≡ q
   claimed-spread-determined p e = p ∙ sym e
+
+-- `number`: the answer
+module _ (κs : Lfts 1) (a : ArgsD number.signature κs) (r q : ResD number.signature κs)
+    (s t : AtExit (endedOf 1 number-kinds.ps number-kinds.r) κs) where
+  pub number-determined : number-reads.Post κs a r s → number-reads.Post κs a q t →
+      r ≡ q
+  number-determined p e = p ∙ sym e
 
 -- `signed`: the answer
 module _ (κs : Lfts 1) (a : ArgsD signed.signature κs) (r q : ResD signed.signature κs)

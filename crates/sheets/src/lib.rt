@@ -9,6 +9,7 @@ mod words;
 
 pub use claimed::claimed_spread;
 pub use numerals::is_decimal;
+pub use numerals::number;
 pub use numerals::signed;
 pub use pieces::same;
 pub use sheet::read_sheet;

@@ -10,8 +10,7 @@ ghost use Rattle.meaning.specs.SheetText.{numberOf, noNumber, signedOf};
 ghost use Rattle.sheets.specs.Arguments.{inDigits, inDecimal};
 
 // A number of at most so much.
-pub(crate) fn number(word: &[u8], limit: u64) -> Numeral
-    requires { ⌜ 9 ≤ limit ⌝ }
+pub fn number(word: &[u8], limit: u64) -> Numeral
     ensures { λ r. ⌜ r ≡ numberOf limit (now (word .entry)) ⌝ }
 {
     let mut n: u64 = 0;
@@ -25,6 +24,9 @@ pub(crate) fn number(word: &[u8], limit: u64) -> Numeral
             return no_number();
         }
         let digit = (byte - 48) as u64;
+        if limit < digit {
+            return no_number();
+        }
         if (limit - digit) / 10 < n {
             return no_number();
         }

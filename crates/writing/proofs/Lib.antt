@@ -1,3 +1,4 @@
--- What a verdict says of the answer, and what determines the outcome of the public function.
+-- What a verdict says of the answer, what determines the outcome of the public function, and a reading's bits.
 pub mod Answers
 pub mod Determined
+pub mod Shortened

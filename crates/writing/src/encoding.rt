@@ -7,7 +7,7 @@ ghost use Rattle.algebra.specs.Buffers.{Wrote};
 ghost use Rattle.meaning.specs.Writing.{bytesOf, restraintBody, readingsBody};
 
 // The third field: the restraint set, then its accepted sum.
-pub(crate) fn put_restraint(out: &mut [u8], at: usize, set: u64, sum: i64) -> usize
+pub fn put_restraint(out: &mut [u8], at: usize, set: u64, sum: i64) -> usize
     ensures { λ r. ⌜ Wrote (now (out .entry)) at (3 ∷ bytesOf 2 16 ++ restraintBody set sum) (now (out .exit)) r ⌝ }
 {
     let body = put_start(out, at, 3, 16);
@@ -30,7 +30,7 @@ pub(crate) fn put_readings(out: &mut [u8], at: usize, readings: &[i32]) -> usize
 }
 
 // The start of a field: its tag, and the length of its body.
-pub(crate) fn put_start(out: &mut [u8], at: usize, tag: u8, length: usize) -> usize
+pub fn put_start(out: &mut [u8], at: usize, tag: u8, length: usize) -> usize
     ensures { λ r. ⌜ Wrote (now (out .entry)) at (tag ∷ bytesOf 2 length) (now (out .exit)) r ⌝ }
 {
     let next = put_byte(out, at, tag);

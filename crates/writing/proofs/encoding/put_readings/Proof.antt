@@ -13,7 +13,8 @@ use Rattle.algebra.specs.Buffers.{Wrote}
 use Rattle.algebra.proofs.Writing.{named, kept}
 use Rattle.algebra.proofs.Numbers.{widened-fits}
 use Rattle.meaning.specs.Writing.{bytesOf, wrapped, readingsBody}
-use Rattle.writing.proofs.encoding.Numbers.{no-readings, more-readings, bits-short}
+use Rattle.writing.proofs.encoding.Numbers.{no-readings, more-readings}
+use Rattle.writing.proofs.Shortened.{bits-short}
 use Rattle.writing.proofs.encoding.put_readings.Statement.{statement}
 use Rattle.writing.proofs.encoding.put_readings.Tie as tie
 

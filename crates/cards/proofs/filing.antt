@@ -1,0 +1,2 @@
+-- The laws of a card's file and its parts.
+pub mod Parts

@@ -1,0 +1,2 @@
+-- The laws of digits in base 16.
+pub mod Digits

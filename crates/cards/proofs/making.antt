@@ -1,0 +1,2 @@
+-- The laws of the answer of a card.
+pub mod Answers

@@ -1,0 +1,2 @@
+-- The law of a bit that is added.
+pub mod Bits

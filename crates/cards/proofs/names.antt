@@ -1,0 +1,2 @@
+-- The laws of a name, byte by byte.
+pub mod Escapes

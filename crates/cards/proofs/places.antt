@@ -1,0 +1,2 @@
+-- The laws of lines and columns.
+pub mod Turns

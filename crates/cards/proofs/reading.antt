@@ -1,0 +1,2 @@
+-- The laws of reading a card word by word.
+pub mod Turning

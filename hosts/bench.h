@@ -357,6 +357,12 @@ uint64_t bench_certificate(const uint8_t *bytes, size_t bytes_length,
                            uint8_t *out, size_t out_length,
                            uint64_t *answer, size_t answer_length);
 
+/* Writes the card of a job file to the front of `out`: the text from which the same job is read, a line for each thing; or the line of its refusal, as
+ * bench_listing does. The call itself is refused by 10 alone; BENCH_TEXT bytes are always enough. */
+uint64_t bench_card(const uint8_t *bytes, size_t bytes_length,
+                    uint8_t *out, size_t out_length,
+                    uint64_t *answer, size_t answer_length);
+
 /* ---- files of the second edition, at most 16,384 bytes: the field 10 00 01 02 (hexadecimal), the four fields, then optional fields with
  * rising tags from 80 hexadecimal on. Tag 80 holds the names, eight bytes for each object, filled with spaces, in object order; others are
  * kept and skipped. */
@@ -403,6 +409,11 @@ uint64_t bench_listing_second(const uint8_t *bytes, size_t bytes_length,
 uint64_t bench_certificate_second(const uint8_t *bytes, size_t bytes_length,
                                   uint8_t *out, size_t out_length,
                                   uint64_t *answer, size_t answer_length);
+
+/* Writes the card of a file to the front of `out`, as bench_card does, with the names as on certificates and each other optional field in base 16. */
+uint64_t bench_card_second(const uint8_t *bytes, size_t bytes_length,
+                           uint8_t *out, size_t out_length,
+                           uint64_t *answer, size_t answer_length);
 
 /* ---- sheets of another laboratory: for each object of a job the hundredths of a count that are claimed for it, and a claimed spread: where `has_spread`
  * is 0 the sheet claims that there is none, and the next two are not looked at; else the spread `spread` with `freedom` degrees of freedom.

@@ -764,6 +764,15 @@ def certificate(file: Wholes) -> str:
     return _put("bench_certificate", _CERTIFICATE, _file(file)).decode("ascii")
 
 
+def card(file: Wholes) -> str:
+    """The card of a job file: the text from which the same job is read, a line for each thing; or the line of its refusal.
+
+    >>> print(card(write(Head(5, 0, 2, 1), [1, 4, 2, 3], {0, 1}, 7, [11, -3, 4, 1, -8])).splitlines()[2])
+    initial 1 4 | 2 3
+    """
+    return _put("bench_card", _TEXT, _file(file)).decode("ascii")
+
+
 # ---- files of the second edition
 
 
@@ -838,6 +847,16 @@ def certificate_second(file: Wholes) -> str:
     ['1', '1\\\\x20kg\\\\x20b', 'yes']
     """
     return _put("bench_certificate_second", _CERTIFICATE, _file(file)).decode("ascii")
+
+
+def card_second(file: Wholes) -> str:
+    """The card of a file of the second edition, with its names and its other optional fields, or the line of its refusal.
+
+    >>> named = write_second(Head(3, 0, 1, 1), [0, 1], {0, 1}, 7, [1, 2, 3], [b"1 kg a  ", b"1 kg b  ", b"1 kg c  "])
+    >>> card_second(named).splitlines()[-1].split()[1]
+    '1\\\\x20kg\\\\x20a'
+    """
+    return _put("bench_card_second", _TEXT, _file(file)).decode("ascii")
 
 
 # ---- another laboratory's sheet

@@ -21,7 +21,7 @@ RIGHT = {
     "count": 5, "v": 5, "p": 2, "groups": [1] * 5, "file": FILE, "place": 0, "tag": 1, "length": 4, "names": [b"a       "] * 5, "files": [FILE, FILE],
     "sheet": bench.Sheet([-30, 730, 190, 50, 510], bench.ClaimedSpread(2.23, 1)), "practice": bench.Practice([1, 2, 3, 4, 5], 0, 8),
 }  # fmt: skip
-SECOND = {"read_second", "solve_second", "to_first", "listing_second", "certificate_second", "check_second"}
+SECOND = {"read_second", "solve_second", "to_first", "listing_second", "certificate_second", "card_second", "check_second"}
 # What is no call of the bench: it takes what calls hand back.
 HELPERS = {"flat"}
 

@@ -17,6 +17,7 @@
 
 mod asked;
 mod balanced;
+mod card;
 mod certificate;
 mod coefficients;
 mod compare;
@@ -229,6 +230,9 @@ const CALLS: &[Call] = &[
     call!(bench_certificate(bytes; out answer), [], |asked| {
         text(asked.file().map_or_else(listing::refused, |solved| certificate::accepted(&solved.job, &solved.results, &[])).into_bytes())
     }),
+    call!(bench_card(bytes; out answer), [], |asked| {
+        text(asked.file().map_or_else(listing::refused, |solved| card::of_job(&solved.job, &asked.bytes)).into_bytes())
+    }),
     call!(bench_read_second(second; signed_slots answer), [&[Test::Second]], |asked| {
         let (file, _) = accepted_second(asked);
         let job = &file.job;
@@ -253,6 +257,9 @@ const CALLS: &[Call] = &[
     call!(bench_certificate_second(second; out answer), [], |asked| {
         let names = |file: &second::Second| file.names.map_or(&[][..], |at| &asked.second[at..at + 8 * file.job.head.objects()]);
         text(asked.second_file().map_or_else(listing::refused, |(file, results)| certificate::accepted(&file.job, results, names(file))).into_bytes())
+    }),
+    call!(bench_card_second(second; out answer), [], |asked| {
+        text(asked.second_file().map_or_else(listing::refused, |(file, _)| card::of_second(file, &asked.second)).into_bytes())
     }),
     call!(bench_grouped(grouping; answer), [GROUPING], |asked| vec![whole(&four(asked.grouping.counts().expect("constant counts")))]),
     call!(bench_group_base(head blocks size; words answer), [DESIGN, BALANCE, &[Test::GroupSize]], |asked| {

@@ -34,7 +34,7 @@ fn counts(hundredths: i128) -> String {
 }
 
 /// A name of eight bytes as it is shown: without the spaces that fill it up, bytes that would break a line or a column in base 16.
-fn shown(name: &[u8]) -> String {
+pub fn shown(name: &[u8]) -> String {
     let end = name.iter().rposition(|byte| *byte != b' ').map_or(1, |last| last + 1);
     let byte = |byte: &u8| match byte {
         b'#' | b'\\' => format!("\\x{byte:02X}"),

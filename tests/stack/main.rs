@@ -165,6 +165,7 @@ const CALLS: &[Call] = rows! { job rooms:
     write(head, &job.blocks, job.set, job.sum, &job.readings, &mut rooms.out, &mut rooms.answer);
     listing(&job.file, &mut rooms.out, &mut rooms.answer);
     certificate(&job.file, &mut rooms.out, &mut rooms.answer);
+    card(&job.file, &mut rooms.out, &mut rooms.answer);
     read_second(&job.second, &mut rooms.signed, &mut rooms.answer);
     solve_second(&job.second, &mut rooms.words, &mut rooms.values, &mut rooms.deviations, &mut rooms.answer, &mut rooms.real);
     write_second(head, &job.blocks, job.set, job.sum, &job.readings, &job.names, &mut rooms.out, &mut rooms.answer);
@@ -172,6 +173,7 @@ const CALLS: &[Call] = rows! { job rooms:
     to_first(&job.second_plain, &mut rooms.out, &mut rooms.answer);
     listing_second(&job.second, &mut rooms.out, &mut rooms.answer);
     certificate_second(&job.second, &mut rooms.out, &mut rooms.answer);
+    card_second(&job.second, &mut rooms.out, &mut rooms.answer);
     check_parts(head, &job.blocks, &job.readings, job.set, job.sum, &job.claims, job.has_spread, job.spread, job.freedom, &mut rooms.answer);
     check_file(&job.file, &job.claims, job.has_spread, job.spread, job.freedom, &mut rooms.answer);
     check_second(&job.second, &job.claims, job.has_spread, job.spread, job.freedom, &mut rooms.answer);

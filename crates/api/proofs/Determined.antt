@@ -7,6 +7,12 @@ use denote.Ref.{now}
 use borrow.Fn.World.{ArgsD, ResD}
 use borrow.Fn.Kinds.{endedOf}
 use denote.Triple.Clauses.{AtExit}
+use Rattle.api.proofs.card_texts.bench_card as bench-card
+use Rattle.api.proofs.card_texts.bench_card.Kinds as bench-card-kinds
+use Rattle.api.proofs.card_texts.bench_card.Reads as bench-card-reads
+use Rattle.api.proofs.card_texts.bench_card_second as bench-card-second
+use Rattle.api.proofs.card_texts.bench_card_second.Kinds as bench-card-second-kinds
+use Rattle.api.proofs.card_texts.bench_card_second.Reads as bench-card-second-reads
 use Rattle.api.proofs.certificates.bench_certificate as bench-certificate
 use Rattle.api.proofs.certificates.bench_certificate.Kinds as bench-certificate-kinds
 use Rattle.api.proofs.certificates.bench_certificate.Reads as bench-certificate-reads
@@ -130,6 +136,24 @@ use Rattle.api.proofs.totals.bench_sum_of_squares.Reads as bench-sum-of
 use Rattle.api.proofs.totals.bench_sum_of_squared_totals as bench-sum-of-squared-totals
 use Rattle.api.proofs.totals.bench_sum_of_squared_totals.Kinds as bench-sum-of-squared-totals-kinds
 use Rattle.api.proofs.totals.bench_sum_of_squared_totals.Reads as bench-sum-of-squared-totals-reads
+
+-- `bench_card`: the answer, `out`, `answer`
+module _ (κs : Lfts 3) (a : ArgsD bench-card.signature κs) (r q : ResD bench-card.signature κs)
+    (s t : AtExit (endedOf 3 bench-card-kinds.ps bench-card-kinds.r) κs) where
+  pub bench-card-determined : bench-card-reads.Post κs a r s → bench-card-reads.Post κs a q t →
+      (r ≡ q)
+      × (now (s .1 .0) ≡ now (t .1 .0))
+      × (now (s .1 .1 .0) ≡ now (t .1 .1 .0))
+  bench-card-determined p e = (p .0 ∙ sym (e .0), p .1 .0 ∙ sym (e .1 .0), p .1 .1 ∙ sym (e .1 .1))
+
+-- `bench_card_second`: the answer, `out`, `answer`
+module _ (κs : Lfts 3) (a : ArgsD bench-card-second.signature κs) (r q : ResD bench-card-second.signature κs)
+    (s t : AtExit (endedOf 3 bench-card-second-kinds.ps bench-card-second-kinds.r) κs) where
+  pub bench-card-second-determined : bench-card-second-reads.Post κs a r s → bench-card-second-reads.Post κs a q t →
+      (r ≡ q)
+      × (now (s .1 .0) ≡ now (t .1 .0))
+      × (now (s .1 .1 .0) ≡ now (t .1 .1 .0))
+  bench-card-second-determined p e = (p .0 ∙ sym (e .0), p .1 .0 ∙ sym (e .1 .0), p .1 .1 ∙ sym (e .1 .1))
 
 -- `bench_certificate`: the answer, `out`, `answer`
 module _ (κs : Lfts 3) (a : ArgsD bench-certificate.signature κs) (r q : ResD bench-certificate.signature κs)

@@ -7,3 +7,4 @@ pub mod Second
 pub mod Groups
 pub mod Sheets
 pub mod Practising
+pub mod Cards

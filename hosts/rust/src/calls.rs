@@ -92,6 +92,8 @@ calls! {
     listing = bench_listing(bytes: &[u8], out: &mut [u8], answer: &mut [u64],);
     /// Writes the certificate of a job file; how many bytes.
     certificate = bench_certificate(bytes: &[u8], out: &mut [u8], answer: &mut [u64],);
+    /// Writes the card of a job file: how many bytes.
+    card = bench_card(bytes: &[u8], out: &mut [u8], answer: &mut [u64],);
     /// Reads a file of the second edition: as [`read`], and where the names start, 0 for none.
     read_second = bench_read_second(bytes: &[u8], signed_slots: &mut [i64], answer: &mut [u64],);
     /// Works a file of the second edition out: as [`analyse`].
@@ -107,6 +109,8 @@ calls! {
     listing_second = bench_listing_second(bytes: &[u8], out: &mut [u8], answer: &mut [u64],);
     /// Writes the certificate of a file of the second edition, with its names; how many bytes.
     certificate_second = bench_certificate_second(bytes: &[u8], out: &mut [u8], answer: &mut [u64],);
+    /// Writes the card of a file of the second edition, with its names and its other fields: how many bytes.
+    card_second = bench_card_second(bytes: &[u8], out: &mut [u8], answer: &mut [u64],);
     /// Judges any blocks with respect to groups: l11, l21, l12, l22.
     grouped = bench_grouped(count: usize, v: usize, p: usize, blocks: &[u8], groups: &[u8], answer: &mut [u64],);
     /// The grouped set of a design, in 2b words: v, b, r, p, l11, l21, l12, l22.

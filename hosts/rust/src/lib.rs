@@ -736,6 +736,20 @@ pub fn certificate(bytes: &[u8]) -> Result<String, Refusal> {
     Ok(String::from_utf8(out).expect("a certificate is ASCII"))
 }
 
+/// The card of a job file: the text from which the same job is read, a line for each thing; or the line of its refusal. With [`TEXT`] bytes of room it is
+/// never refused.
+///
+/// ```
+/// # use mass_bench::{card, write, Head};
+/// let file = write(Head { n: 5, flag: 0, p: 2, m: 1 }, &[1, 4, 2, 3], 0b11, 7, &[11, -3, 4, 1, -8])?;
+/// assert_eq!(card(&file)?, "residues 5\nfixed no\ninitial 1 4 | 2 3\nrestraint 0 1 = 7\nreadings\n 11 -3 4 1 -8\n");
+/// # Ok::<(), mass_bench::Refusal>(())
+/// ```
+pub fn card(bytes: &[u8]) -> Result<String, Refusal> {
+    let out = put(TEXT, |out, answer| calls::card(bytes, out, answer))?;
+    Ok(String::from_utf8(out).expect("a card is ASCII"))
+}
+
 // ---- files of the second edition
 
 /// Reads a file of the second edition.
@@ -818,6 +832,19 @@ pub fn listing_second(bytes: &[u8]) -> Result<String, Refusal> {
 pub fn certificate_second(bytes: &[u8]) -> Result<String, Refusal> {
     let out = put(CERTIFICATE, |out, answer| calls::certificate_second(bytes, out, answer))?;
     Ok(String::from_utf8(out).expect("a certificate is ASCII"))
+}
+
+/// The card of a file of the second edition, with its names and its other optional fields, or the line of its refusal.
+///
+/// ```
+/// # use mass_bench::{card_second, write_second, Head};
+/// let file = write_second(Head { n: 3, flag: 0, p: 1, m: 1 }, &[0, 1], 0b11, 7, &[1, 2, 3], &[*b"1 kg a  ", *b"1 kg b  ", *b"1 kg c  "])?;
+/// assert_eq!(card_second(&file)?.lines().last(), Some(r"names 1\x20kg\x20a 1\x20kg\x20b 1\x20kg\x20c"));
+/// # Ok::<(), mass_bench::Refusal>(())
+/// ```
+pub fn card_second(bytes: &[u8]) -> Result<String, Refusal> {
+    let out = put(TEXT, |out, answer| calls::card_second(bytes, out, answer))?;
+    Ok(String::from_utf8(out).expect("a card is ASCII"))
 }
 
 // What a call put into room of `room` bytes, as many as it says.

@@ -1,0 +1,2 @@
+-- A text whose length asks for a slot.
+pub mod Slot

@@ -231,7 +231,7 @@ const CALLS: &[Call] = &[
         text(asked.file().map_or_else(listing::refused, |solved| certificate::accepted(&solved.job, &solved.results, &[])).into_bytes())
     }),
     call!(bench_card(bytes; out answer), [], |asked| {
-        text(asked.file().map_or_else(listing::refused, |solved| card::of_job(&solved.job, &asked.bytes)).into_bytes())
+        text(asked.file().map_or_else(listing::refused, |_| card::of(&asked.bytes).expect("a job")).into_bytes())
     }),
     call!(bench_read_second(second; signed_slots answer), [&[Test::Second]], |asked| {
         let (file, _) = accepted_second(asked);
@@ -259,7 +259,7 @@ const CALLS: &[Call] = &[
         text(asked.second_file().map_or_else(listing::refused, |(file, results)| certificate::accepted(&file.job, results, names(file))).into_bytes())
     }),
     call!(bench_card_second(second; out answer), [], |asked| {
-        text(asked.second_file().map_or_else(listing::refused, |(file, _)| card::of_second(file, &asked.second)).into_bytes())
+        text(asked.second_file().map_or_else(listing::refused, |_| card::of(&asked.second).expect("a job")).into_bytes())
     }),
     call!(bench_grouped(grouping; answer), [GROUPING], |asked| vec![whole(&four(asked.grouping.counts().expect("constant counts")))]),
     call!(bench_group_base(head blocks size; words answer), [DESIGN, BALANCE, &[Test::GroupSize]], |asked| {

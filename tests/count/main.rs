@@ -7,6 +7,7 @@
 //!     rustc -O --edition 2021 tests/count/main.rs -o target/count/count
 
 mod balanced;
+mod card;
 mod certificate;
 mod coefficients;
 mod compare;

@@ -2,10 +2,12 @@
 //!
 //! `list FILE`: jobs of both editions, half of them damaged, and for an unbalanced design the two pairs that are named.
 //! `certificate FILE`: such jobs, with names of any bytes.
+//! `card FILE`: the same.
 //! `check JOB SHEET`: jobs of both editions, some refused, with sheets as text: a listing's own lines, in other order and among others, and wrong in one place.
 //! `practice JOB START WIDTH VALUE..`: jobs of both editions, some refused, with numbers in their ranges, out of them, written in more digits than they need, and words that are none.
 //! `pool FILE..`: files of one v and beta, some damaged or of another kind, one to more than 64, with names of any bytes.
 
+use crate::card;
 use crate::certificate;
 use crate::damage;
 use crate::design;
@@ -48,7 +50,8 @@ struct Trial {
     expected: Expected,
 }
 
-const VERBS: [(&str, fn(u64, u64, &mut Seed) -> Trial); 5] = [("list", list), ("certificate", certificate), ("check", check), ("practice", practise), ("pool", pool)];
+const VERBS: [(&str, fn(u64, u64, &mut Seed) -> Trial); 6] =
+    [("list", list), ("certificate", certificate), ("card", card), ("check", check), ("practice", practise), ("pool", pool)];
 
 /// A file by a plain name.
 fn plain(name: &str, bytes: Vec<u8>) -> (Vec<u8>, Vec<u8>) {
@@ -216,6 +219,16 @@ fn certificate(seed: u64, index: u64, source: &mut Seed) -> Trial {
             let about = if names.is_empty() { "a certificate" } else { "a certificate with names" };
             (about, printed(certificate::accepted(&job, &solve(&job), names)))
         }
+        Err(refusal) => ("a job that is refused", refused_job(&file, refusal)),
+    };
+    Trial { about, files: vec![plain("job", file)], words: vec![], expected }
+}
+
+/// A job, with all its fields.
+fn card(seed: u64, index: u64, source: &mut Seed) -> Trial {
+    let (file, read) = job_file(seed, 3 * index + 2, source);
+    let (about, expected) = match read {
+        Ok(_) => ("a card", printed(card::of(&file).expect("a job"))),
         Err(refusal) => ("a job that is refused", refused_job(&file, refusal)),
     };
     Trial { about, files: vec![plain("job", file)], words: vec![], expected }

@@ -61,6 +61,7 @@ fn run_verb(count: usize) {
     match verb {
         Verb::List => texts::print_text(verb, count),
         Verb::Certificate => texts::print_text(verb, count),
+        Verb::Card => texts::print_text(verb, count),
         Verb::Check => check::check(count),
         Verb::Practice => practising::practise(count),
         Verb::Pool => pooling::pool(count),

@@ -1,5 +1,5 @@
-// The verbs that print a text of a job of either edition: `list FILE` its listing, `certificate FILE` its certificate. For a refused job either prints the
-// line of the refusal, and says its sentence.
+// The verbs that print a text of a job of either edition: `list FILE` its listing, `certificate FILE` its certificate, `card FILE` its card. For a
+// refused job each prints the line of the refusal, and says its sentence.
 use crate::figures::read_verdict;
 use crate::files::in_front;
 use crate::files::is_second;
@@ -39,6 +39,7 @@ fn print_text_of(verb: Verb, file: &[u8]) {
 fn put_text_of(verb: Verb, file: &[u8], text: &mut [u8]) -> usize {
     match verb {
         Verb::Certificate => put_certificate(file, text),
+        Verb::Card => put_card(file, text),
         _ => put_listing(file, text),
     }
 }
@@ -60,6 +61,16 @@ fn put_certificate(file: &[u8], text: &mut [u8]) -> usize {
         return listed.length;
     }
     let listed = listing::certificate(file, text);
+    listed.length
+}
+
+// The card.
+fn put_card(file: &[u8], text: &mut [u8]) -> usize {
+    if is_second(file) {
+        let listed = cards::card_of_second(file, text);
+        return listed.length;
+    }
+    let listed = cards::card_of(file, text);
     listed.length
 }
 

@@ -9,6 +9,7 @@ use printing::put_text;
 pub enum Verb {
     List,
     Certificate,
+    Card,
     Check,
     Practice,
     Pool,
@@ -24,6 +25,9 @@ pub(crate) fn verb_named(name: &[u8]) -> Verb {
     }
     if sheets::same(name, b"certificate") {
         return Verb::Certificate;
+    }
+    if sheets::same(name, b"card") {
+        return Verb::Card;
     }
     if sheets::same(name, b"check") {
         return Verb::Check;
@@ -55,6 +59,7 @@ fn put_takes(text: &mut [u8], at: usize, verb: Verb) -> usize {
     match verb {
         Verb::List => put_text(text, at, b"bench list FILE"),
         Verb::Certificate => put_text(text, at, b"bench certificate FILE"),
+        Verb::Card => put_text(text, at, b"bench card FILE"),
         Verb::Check => put_text(text, at, b"bench check FILE SHEET"),
         Verb::Practice => put_text(text, at, b"bench practice FILE START WIDTH VALUE.."),
         Verb::Pool => put_text(text, at, b"bench pool FILE.."),
@@ -76,6 +81,11 @@ fn put_does(text: &mut [u8], at: usize, verb: Verb) -> usize {
             text,
             at,
             b"the certificate of a job: each weight with its value and its standard uncertainty in counts, and the spread",
+        ),
+        Verb::Card => put_text(
+            text,
+            at,
+            b"the card of a job: the text that a person reads and types",
         ),
         Verb::Check => put_text(
             text,
@@ -115,6 +125,11 @@ fn put_more(text: &mut [u8], at: usize, verb: Verb) -> usize {
             at,
             b"FILE is a job of either edition; in the second the weights have names. Ends with 1 where it is refused.\n",
         ),
+        Verb::Card => put_text(
+            text,
+            at,
+            b"FILE is a job of either edition. Ends with 1 where it is refused.\n",
+        ),
         Verb::Check => put_text(
             text,
             at,
@@ -150,7 +165,8 @@ fn put_verbs(text: &mut [u8], at: usize) -> usize {
     let none_end = put_verb(text, at, Verb::None);
     let list_end = put_verb(text, none_end, Verb::List);
     let certificate_end = put_verb(text, list_end, Verb::Certificate);
-    let check_end = put_verb(text, certificate_end, Verb::Check);
+    let card_end = put_verb(text, certificate_end, Verb::Card);
+    let check_end = put_verb(text, card_end, Verb::Check);
     let practice_end = put_verb(text, check_end, Verb::Practice);
     let pool_end = put_verb(text, practice_end, Verb::Pool);
     let help_end = put_verb(text, pool_end, Verb::Help);

@@ -64,7 +64,7 @@
  *    33 KB | bench_practice_file
  *    29 KB | bench_deviations, bench_practice
  *    26 KB | bench_total, bench_sum_of_squared_totals
- *    14 KB | bench_solve, bench_solve_second, bench_read, bench_read_second, bench_to_second, bench_to_first
+ *    14 KB | bench_solve, bench_solve_second, bench_card, bench_card_second, bench_read, bench_read_second, bench_to_second, bench_to_first
  *     8 KB | bench_judge_by_differences, bench_group_base, bench_refusal, bench_analyse, bench_write, bench_write_second
  *     5 KB | bench_develop, bench_develop_initial
  *     1 KB | bench_pairs_refusal, bench_sum_of_squares, bench_field_at

@@ -837,8 +837,9 @@ pub fn certificate_second(bytes: &[u8]) -> Result<String, Refusal> {
 /// The card of a file of the second edition, with its names and its other optional fields, or the line of its refusal.
 ///
 /// ```
-/// # use mass_bench::{card_second, write_second, Head};
-/// let file = write_second(Head { n: 3, flag: 0, p: 1, m: 1 }, &[0, 1], 0b11, 7, &[1, 2, 3], &[*b"1 kg a  ", *b"1 kg b  ", *b"1 kg c  "])?;
+/// # use mass_bench::{card_second, write_second, Head, Name};
+/// let names = [Name(*b"1 kg a  "), Name(*b"1 kg b  "), Name(*b"1 kg c  ")];
+/// let file = write_second(Head { n: 3, flag: 0, p: 1, m: 1 }, &[0, 1], 0b11, 7, &[1, 2, 3], &names)?;
 /// assert_eq!(card_second(&file)?.lines().last(), Some(r"names 1\x20kg\x20a 1\x20kg\x20b 1\x20kg\x20c"));
 /// # Ok::<(), mass_bench::Refusal>(())
 /// ```

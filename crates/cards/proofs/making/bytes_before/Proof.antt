@@ -5,10 +5,10 @@ use Rattle.cards.proofs.making.bytes_before.Statement.{statement}
 use Rattle.cards.proofs.making.bytes_before.Tie as tie
 
 returns : tie.Need-returns
-returns c = rw (c .before .if1 .taken) (c .less .ensures)
+returns c = rw (c .before .if1 .taken) (search (c .less .ensures))
 
 returns-2 : tie.Need-returns-2
-returns-2 c = rw (c .before .if2 .taken) (c .less2 .ensures)
+returns-2 c = rw (c .before .if2 .taken) (search (c .less2 .ensures))
 
 returns-3 : tie.Need-returns-3
 returns-3 c = let k = c .before .before .args .number in rw (ne-eqb k 5 (c .before .if1 .left), ne-eqb k 8 (c .if2 .left))

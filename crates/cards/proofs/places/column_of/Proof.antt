@@ -18,7 +18,7 @@ abbrev μ-loop : tie.MeasureT-loop
 μ-loop card place column₀ k₀ column k = length card - k
 
 loop-holds : tie.Need-loop-holds Inv-loop μ-loop
-loop-holds c = let all : c .before .args .place - 0 ≡ c .before .args .place = omega arith in (omega arith, omega arith, omega arith, ap (λ n. columnFrom 1 (take n (now (c .before .args .card)))) all)
+loop-holds c = let all : c .before .args .place - 0 ≡ c .before .args .place = omega arith in (omega arith, omega arith, omega arith, search (ap (λ n. columnFrom 1 (take n (now (c .before .args .card)))) all))
 
 returns : tie.Need-returns Inv-loop μ-loop
 returns c =

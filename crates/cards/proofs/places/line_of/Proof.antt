@@ -19,7 +19,7 @@ abbrev μ-loop : tie.MeasureT-loop
 μ-loop card place line₀ k₀ line k = length card - k
 
 loop-holds : tie.Need-loop-holds Inv-loop μ-loop
-loop-holds c = let all : c .before .args .place - 0 ≡ c .before .args .place = omega arith in (omega arith, omega arith, omega arith, ap (λ n. occ 10 (take n (now (c .before .args .card))) + 1) all)
+loop-holds c = let all : c .before .args .place - 0 ≡ c .before .args .place = omega arith in (omega arith, omega arith, omega arith, search (ap (λ n. occ 10 (take n (now (c .before .args .card))) + 1) all))
 
 returns : tie.Need-returns Inv-loop μ-loop
 returns c =

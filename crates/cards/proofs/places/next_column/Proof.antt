@@ -7,7 +7,7 @@ use Rattle.cards.proofs.places.next_column.Statement.{statement}
 use Rattle.cards.proofs.places.next_column.Tie as tie
 
 returns : tie.Need-returns
-returns c = rw (eq-eqb (c .before .args .byte) 10 (c .if1 .taken))
+returns c = rw (eq-eqb (c .before .args .byte) 10 (c .if1 .taken)) (search needs)
 
 returns-2 : tie.Need-returns-2
 returns-2 c = rw (ne-eqb (c .before .args .byte) 10 (c .if1 .left)) (search needs)

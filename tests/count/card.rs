@@ -76,6 +76,25 @@ fn four(draft: &Draft) -> String {
     text + "\n"
 }
 
+/// The words of a card for the parts of a job, right or wrong.
+pub fn words_of(draft: &Draft) -> Vec<String> {
+    let object = |object: &u8| if *object == INFINITY { "inf".to_string() } else { object.to_string() };
+    let mut words = vec![if draft.flag < 2 { "residues" } else { "field" }.to_string(), draft.n.to_string()];
+    words.extend(["fixed", if draft.flag % 2 == 1 { "yes" } else { "no" }].map(str::to_string));
+    for block in draft.objects.chunks(2 * usize::from(draft.p.max(1))) {
+        let (left, right) = block.split_at(block.len() / 2);
+        words.push("initial".to_string());
+        words.extend(left.iter().map(object));
+        words.push("|".to_string());
+        words.extend(right.iter().map(object));
+    }
+    words.push("restraint".to_string());
+    words.extend(members(draft.restraint).iter().map(usize::to_string));
+    words.extend(["=".to_string(), draft.sum.to_string(), "readings".to_string()]);
+    words.extend(draft.readings.iter().map(i32::to_string));
+    words
+}
+
 /// Why a card makes no file: at a place it cannot be read, since the word numbered so was wanted; or the file is refused for what stands at a place of the card.
 #[derive(Debug)]
 pub enum Unmade {

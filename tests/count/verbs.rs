@@ -3,6 +3,7 @@
 //! `list FILE`: jobs of both editions, half of them damaged, and for an unbalanced design the two pairs that are named.
 //! `certificate FILE`: such jobs, with names of any bytes.
 //! `card FILE`: the same.
+//! `job CARD`: cards of jobs right and wrong, with comments and spacing of all kinds, some with a word that is changed, put in or left out, some cut short.
 //! `check JOB SHEET`: jobs of both editions, some refused, with sheets as text: a listing's own lines, in other order and among others, and wrong in one place.
 //! `practice JOB START WIDTH VALUE..`: jobs of both editions, some refused, with numbers in their ranges, out of them, written in more digits than they need, and words that are none.
 //! `pool FILE..`: files of one v and beta, some damaged or of another kind, one to more than 64, with names of any bytes.
@@ -26,20 +27,21 @@ use std::os::unix::ffi::OsStrExt;
 use std::path::PathBuf;
 use std::process::{Command, Stdio};
 
-/// What a verb prints, the word with which standard error begins, none where nothing is said there, and words that it must hold too.
+/// What a verb prints, the word with which standard error begins, none where nothing is said there, words that it must hold too, and how it ends.
 struct Expected {
     printed: Vec<u8>,
     begins: &'static str,
     holds: String,
+    ends: &'static str,
 }
 
 fn printed(text: String) -> Expected {
     let begins = ["refused", "differs"].into_iter().find(|word| text.starts_with(word)).unwrap_or("");
-    Expected { printed: text.into_bytes(), begins, holds: String::new() }
+    Expected { printed: text.into_bytes(), begins, holds: String::new(), ends: "" }
 }
 
 fn cannot(word: String) -> Expected {
-    Expected { printed: vec![], begins: "bench:", holds: word }
+    Expected { printed: vec![], begins: "bench:", holds: word, ends: "" }
 }
 
 /// What a verb is tried on: files, each with its name, the words after them, and what comes of it. And a few words on what they are.
@@ -50,8 +52,8 @@ struct Trial {
     expected: Expected,
 }
 
-const VERBS: [(&str, fn(u64, u64, &mut Seed) -> Trial); 6] =
-    [("list", list), ("certificate", certificate), ("card", card), ("check", check), ("practice", practise), ("pool", pool)];
+const VERBS: [(&str, fn(u64, u64, &mut Seed) -> Trial); 7] =
+    [("list", list), ("certificate", certificate), ("job", make_job), ("card", card), ("check", check), ("practice", practise), ("pool", pool)];
 
 /// A file by a plain name.
 fn plain(name: &str, bytes: Vec<u8>) -> (Vec<u8>, Vec<u8>) {
@@ -101,8 +103,8 @@ fn run(program: &[String], room: &PathBuf, verb: &str, trial: &Trial) -> Result<
         return Err(format!("it prints `{found}` and says `{said}`, the count `{wanted}`"));
     }
     let begins = if expected.begins.is_empty() { said.is_empty() } else { said.starts_with(expected.begins) };
-    if !begins || !said.contains(&expected.holds) || !output.status.success() {
-        return Err(format!("it says `{said}`, which is to begin with `{}` and to hold `{}`; {}", expected.begins, expected.holds, output.status));
+    if !begins || !said.contains(&expected.holds) || !said.ends_with(expected.ends) || !output.status.success() {
+        return Err(format!("it says `{said}`, which is to begin with `{}`, to hold `{}` and to end with `{}`; {}", expected.begins, expected.holds, expected.ends, output.status));
     }
     Ok(())
 }
@@ -234,6 +236,68 @@ fn card(seed: u64, index: u64, source: &mut Seed) -> Trial {
     Trial { about, files: vec![plain("job", file)], words: vec![], expected }
 }
 
+/// The words of a card of a job, right or wrong, of either edition.
+fn card_words(seed: u64, index: u64, source: &mut Seed) -> Vec<String> {
+    if index % 2 == 1 {
+        return card::words_of(&damage::parts(seed, index).draft);
+    }
+    let (file, read) = job_file(seed, 6 * index, source);
+    read.expect("a whole job");
+    card::of(&file).expect("its card").split_whitespace().map(str::to_string).collect()
+}
+
+/// A card, its words changed or not, with spacing and comments between them.
+fn make_job(seed: u64, index: u64, source: &mut Seed) -> Trial {
+    let mut words = card_words(seed, index, source);
+    let wrong = [
+        "inf", "-", "|", "=", "x", "-1", "+1", "0", "00", "63", "64", "254", "255", "256", "1.5", "2147483647", "2147483648", "-2147483648", "-2147483649", "9223372036854775808", "names", "other", "initial",
+        "readings", "restraint", "fixed", "yes", "field", "80", "81", "7F", "ff", "0g", "abc", "abcd", "\\x4", "\\x41", "\\y41", "brass-100", "brass-1", "Residues", "99999999999999999999999999999999999999999",
+    ];
+    if source.once_in(2) {
+        // the first words and the last ones more often: there are many readings
+        let at = match source.below(3) {
+            0 => source.below(words.len().min(12)),
+            1 => words.len() - 1 - source.below(words.len().min(12)),
+            _ => source.below(words.len()),
+        };
+        match source.below(5) {
+            0 => words[at] = source.pick(&wrong).to_string(),
+            1 => words.insert(at, source.pick(&wrong).to_string()),
+            2 => drop(words.remove(at)),
+            3 => words.truncate(at),
+            _ => words.push(source.pick(&wrong).to_string()),
+        }
+    }
+    let mut text = String::new();
+    for word in &words {
+        text += source.pick(&[" ", "\n", "  ", "\t", " \r\n", " # a comment: 7 inf | =\n", "#\n", "\n\n"]);
+        text += word;
+    }
+    text += source.pick(&["", "\n", " ", "#", " # the end"]);
+    let text = text.into_bytes();
+    let told = |place| card::line_and_column(&text, place);
+    let (about, expected) = match card::file(&text) {
+        _ if text.len() > card::CARD_LIMIT => ("a card that is too long", cannot("more than 65,536 bytes".to_string())),
+        Ok(file) => ("a job", Expected { printed: file, begins: "", holds: String::new(), ends: "" }),
+        Err(card::Unmade::Unread(place, wants)) => {
+            let (line, column) = told(place);
+            let ends = place == text.len();
+            let wanted = format!("card: line {line}, column {column}: expected {}", card::WANTED[wants - 1]);
+            if ends {
+                ("a card that ends too early", Expected { ends: ", but the card ends here\n", ..cannot(wanted) })
+            } else {
+                ("a card that cannot be read", cannot(wanted))
+            }
+        }
+        Err(card::Unmade::Refused(number, place)) => {
+            let (line, column) = told(place);
+            let holds = format!("refused {number} at line {line}, column {column} of card: ");
+            ("a job that is refused", Expected { printed: vec![], begins: "refused", holds, ends: "\n" })
+        }
+    };
+    Trial { about, files: vec![plain("card", text)], words: vec![], expected }
+}
+
 /// A job and its sheet.
 fn check(seed: u64, index: u64, source: &mut Seed) -> Trial {
     let (file, read) = job_file(seed, index, source);
@@ -284,7 +348,7 @@ fn practise(seed: u64, index: u64, source: &mut Seed) -> Trial {
         Ok(job) => {
             let first = if file[0] == second::EDITION[0] { &file[second::EDITION.len()..second::read(&file).expect("a job").optional] } else { &file };
             let design = parts::parts_of(first).expect("the parts of a job");
-            ("a practice job", Expected { printed: asked.file(design, &job.blocks), begins: "", holds: String::new() })
+            ("a practice job", Expected { printed: asked.file(design, &job.blocks), begins: "", holds: String::new(), ends: "" })
         }
     };
     Trial { about, files: vec![plain("job", file)], words, expected }

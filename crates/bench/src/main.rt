@@ -1,6 +1,7 @@
 // The bench. With no argument it reads a job file from standard input, up to 8,192 bytes, and prints its listing; a read that fails counts as the end. A
 // listing that cannot be written whole is said to be so on standard error: a program sets no exit status of its own. With arguments, the first names a
 // verb.
+mod carding;
 mod check;
 mod figures;
 mod files;
@@ -61,6 +62,7 @@ fn run_verb(count: usize) {
     match verb {
         Verb::List => texts::print_text(verb, count),
         Verb::Certificate => texts::print_text(verb, count),
+        Verb::Job => carding::make_job(count),
         Verb::Card => texts::print_text(verb, count),
         Verb::Check => check::check(count),
         Verb::Practice => practising::practise(count),

@@ -9,6 +9,7 @@ use printing::put_text;
 pub enum Verb {
     List,
     Certificate,
+    Job,
     Card,
     Check,
     Practice,
@@ -25,6 +26,9 @@ pub(crate) fn verb_named(name: &[u8]) -> Verb {
     }
     if sheets::same(name, b"certificate") {
         return Verb::Certificate;
+    }
+    if sheets::same(name, b"job") {
+        return Verb::Job;
     }
     if sheets::same(name, b"card") {
         return Verb::Card;
@@ -59,6 +63,7 @@ fn put_takes(text: &mut [u8], at: usize, verb: Verb) -> usize {
     match verb {
         Verb::List => put_text(text, at, b"bench list FILE"),
         Verb::Certificate => put_text(text, at, b"bench certificate FILE"),
+        Verb::Job => put_text(text, at, b"bench job CARD"),
         Verb::Card => put_text(text, at, b"bench card FILE"),
         Verb::Check => put_text(text, at, b"bench check FILE SHEET"),
         Verb::Practice => put_text(text, at, b"bench practice FILE START WIDTH VALUE.."),
@@ -82,6 +87,7 @@ fn put_does(text: &mut [u8], at: usize, verb: Verb) -> usize {
             at,
             b"the certificate of a job: each weight with its value and its standard uncertainty in counts, and the spread",
         ),
+        Verb::Job => put_text(text, at, b"the job file of a card, on standard output"),
         Verb::Card => put_text(
             text,
             at,
@@ -125,6 +131,11 @@ fn put_more(text: &mut [u8], at: usize, verb: Verb) -> usize {
             at,
             b"FILE is a job of either edition; in the second the weights have names. Ends with 1 where it is refused.\n",
         ),
+        Verb::Job => put_text(
+            text,
+            at,
+            b"CARD is a text: residues N or field N; fixed yes or no; initial LEFT | RIGHT for each block; restraint STANDARDS = SUM; readings; names. # starts a comment.\nEnds with 1 where the job is refused, and with 2 where the card cannot be read; either is told by its line and column.\n",
+        ),
         Verb::Card => put_text(
             text,
             at,
@@ -162,15 +173,21 @@ fn put_verb(text: &mut [u8], at: usize, verb: Verb) -> usize {
 
 // The list of verbs.
 fn put_verbs(text: &mut [u8], at: usize) -> usize {
-    let none_end = put_verb(text, at, Verb::None);
-    let list_end = put_verb(text, none_end, Verb::List);
-    let certificate_end = put_verb(text, list_end, Verb::Certificate);
-    let card_end = put_verb(text, certificate_end, Verb::Card);
-    let check_end = put_verb(text, card_end, Verb::Check);
+    let texts_end = put_text_verbs(text, at);
+    let check_end = put_verb(text, texts_end, Verb::Check);
     let practice_end = put_verb(text, check_end, Verb::Practice);
     let pool_end = put_verb(text, practice_end, Verb::Pool);
     let help_end = put_verb(text, pool_end, Verb::Help);
     put_verb(text, help_end, Verb::Version)
+}
+
+// Those for one job, as a text or as a file.
+fn put_text_verbs(text: &mut [u8], at: usize) -> usize {
+    let none_end = put_verb(text, at, Verb::None);
+    let list_end = put_verb(text, none_end, Verb::List);
+    let certificate_end = put_verb(text, list_end, Verb::Certificate);
+    let job_end = put_verb(text, certificate_end, Verb::Job);
+    put_verb(text, job_end, Verb::Card)
 }
 
 // The verb `help`: the list, or one verb.

@@ -26,7 +26,7 @@ pub const WANTED: [&str; 22] = [
     "the accepted sum",
     "readings",
     "a reading",
-    "another reading, names, other, or the end of the card",
+    "another reading, a whole number of counts; or names, other, or the end of the card",
     "a name of at most eight bytes",
     "other, or the end of the card",
     "a tag",

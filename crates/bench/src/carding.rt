@@ -142,7 +142,11 @@ fn put_wanted_to_7(text: &mut [u8], at: usize, wants: usize) -> usize {
             at,
             b"an object of the left side: a number up to 254, or inf",
         ),
-        _ => put_text(text, at, b"another object of the left side, or |"),
+        _ => put_text(
+            text,
+            at,
+            b"another object of the left side, or | with blanks around it",
+        ),
     }
 }
 
@@ -167,10 +171,14 @@ fn put_wanted_to_14(text: &mut [u8], at: usize, wants: usize) -> usize {
         11 => put_text(
             text,
             at,
-            b"initial or restraint: the right side has as many objects as the left one",
+            b"initial or restraint; a number here is one object too many on the right, or one too few on the left",
         ),
         12 => put_text(text, at, b"a standard: the number of an object, up to 63"),
-        13 => put_text(text, at, b"another standard, none twice, or ="),
+        13 => put_text(
+            text,
+            at,
+            b"another standard, none twice, or = with blanks around it",
+        ),
         _ => put_text(text, at, b"the accepted sum, a whole number of counts"),
     }
 }
@@ -183,7 +191,7 @@ fn put_wanted_to_22(text: &mut [u8], at: usize, wants: usize) -> usize {
         17 => put_text(
             text,
             at,
-            b"another reading, names, other, or the end of the card",
+            b"another reading, a whole number of counts; or names, other, or the end of the card",
         ),
         18 => put_text(
             text,

@@ -58,12 +58,16 @@ pub(crate) fn put_words(text: &mut [u8], at: usize, number: u8) -> usize {
 // The file and its design.
 fn put_words_to_6(text: &mut [u8], at: usize, number: u8) -> usize {
     match number {
-        1 => put_text(text, at, b"the file ends within a field"),
-        2 => put_text(text, at, b"another field stands where one belongs"),
+        1 => put_text(text, at, b"the file is empty or ends within a field"),
+        2 => put_text(
+            text,
+            at,
+            b"another field stands where one belongs, so this is no job file; of a card bench job makes one",
+        ),
         3 => put_text(
             text,
             at,
-            b"there are too few or too many objects, readings or true values for the sizes of the design",
+            b"there are too few or too many readings, objects or true values: a design needs a reading for each weighing",
         ),
         4 => put_text(
             text,

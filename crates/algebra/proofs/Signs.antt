@@ -17,7 +17,7 @@ use mir.Facts.{to_z-of_z, to_z_pos}
 
 -- of a call's result or an element, the second argument is that it is an i64
 pub read_back : (x : ℤ) → mag x < 2 ^ 63 → to_z w64 (of_z w64 x) ≡ x
-read_back x h = to_z-of_z (record { sfits = h })
+read_back x h = to_z-of_z {w = w64} (record { sfits = h })
 
 -- the test `x < 0` of a parameter is that of the number itself
 pub plain : (z : ℤ) {b : Bool} → SFits w64 z → lt_z (to_z w64 (of_z w64 z)) (pos 0) ≡ b → lt_z z (pos 0) ≡ b

@@ -3,6 +3,8 @@
 // else. hosts/bench.h says what stands in each slot. Calls on designs stand in `designs`, on readings alone in `totals`, on whole jobs in `jobs`, for
 // deviations, Q and spread in `deviations`, on files in `files`, on files of the second edition in `second`, for certificates in `certificates`, for cards
 // in `card_texts`, on blocks in groups in `grouped_sets`, on sheets in `sheets`, for practice in `practising`, on several jobs in `pools`.
+#![tactic(auto)]
+
 mod card_texts;
 mod certificates;
 mod designs;

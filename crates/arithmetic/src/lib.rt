@@ -1,6 +1,8 @@
 // The numbers that are published, and numbers of two words. The face: a Value from its fraction, the hundredths nearest to a fraction and those at or
 // below it, the size of a signed number, the spread from Q, v·beta and f; product, sum, difference, order and quotient of numbers of two words. Each is
 // total.
+#![tactic(auto)]
+
 mod quotient;
 mod rounding;
 mod spread;

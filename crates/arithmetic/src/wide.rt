@@ -13,7 +13,7 @@ const LAST_WORD: u64 = 18446744073709551615;
 const HALF: u64 = 4294967296;
 
 // A quotient and what is left.
-#[derive(Drop)]
+#[derive(Clone, Copy)]
 pub struct Divided {
     pub quotient: Wide,
     pub rest: u64,

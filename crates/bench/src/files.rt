@@ -4,7 +4,7 @@ ghost use Rattle.io.specs.Counts.{IsPrefixLen};
 use libc::{STDERR_FILENO, STDIN_FILENO};
 
 // Whether a file could be opened, and how many bytes of it were read.
-#[derive(Drop)]
+#[derive(Clone, Copy)]
 pub struct Taken {
     pub opened: bool,
     pub length: usize,

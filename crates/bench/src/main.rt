@@ -1,6 +1,8 @@
 // The bench. With no argument it reads a job file from standard input, up to 8,192 bytes, and prints its listing; a read that fails counts as the end. A
 // listing that cannot be written whole is said to be so on standard error: a program sets no exit status of its own. With arguments, the first names a
 // verb.
+#![tactic(auto)]
+
 mod carding;
 mod check;
 mod figures;

@@ -16,7 +16,7 @@ const FILES_AT: usize = 2;
 const POOL_LIMIT: usize = 64;
 
 // A file laid behind those before it: whether it could be opened, how many of its bytes, and the place after them.
-#[derive(Drop)]
+#[derive(Clone, Copy)]
 pub struct Laid {
     pub opened: bool,
     pub length: usize,
@@ -24,7 +24,7 @@ pub struct Laid {
 }
 
 // The files laid end to end: whether all could be opened, and how many bytes they are.
-#[derive(Drop)]
+#[derive(Clone, Copy)]
 pub struct LaidAll {
     pub opened: bool,
     pub length: usize,

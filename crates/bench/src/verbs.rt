@@ -4,7 +4,7 @@ use libc::STDERR_FILENO;
 use printing::{put_byte, put_text};
 
 // What a first word names.
-#[derive(Drop)]
+#[derive(Clone, Copy)]
 pub enum Verb {
     List,
     Certificate,

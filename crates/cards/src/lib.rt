@@ -1,5 +1,7 @@
 // Cards: a job as a text that a person types and reads. The face: the card of a job file, put into lent room, for both editions; the file that a card makes;
 // and on which line and in which column of it a byte stands.
+#![tactic(auto)]
+
 mod filing;
 mod hexadecimal;
 mod lines;

@@ -13,7 +13,7 @@ use records::Card;
 
 // A card as far as it was walked: the card of the words that have ended, the place that is looked for among them, whether a comment goes on, and where the
 // present word starts.
-#[derive(Drop)]
+#[derive(Clone, Copy)]
 pub struct Walk {
     pub card: Card,
     pub at: usize,

@@ -1,5 +1,7 @@
 // A job file as a whole, refused in the request's order. The face: what an accepted file holds, and all that follows from it, worked out into lent room,
 // for both editions; a file moved from one edition to the other; a sheet checked against a file; and the spread of several files pooled.
+#![tactic(auto)]
+
 mod moving;
 mod places;
 mod pooling;

@@ -13,7 +13,7 @@ use verdicts::is_refused;
 const POOL_LIMIT: usize = 64;
 
 // What is pooled so far: v, beta and v·beta of job 0; the sum of Q and that of f; how many jobs from the first on have v and beta of job 0.
-#[derive(Drop)]
+#[derive(Clone, Copy)]
 pub struct Sums {
     pub v: u64,
     pub beta: u64,

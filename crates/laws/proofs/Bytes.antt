@@ -81,7 +81,10 @@ read-bytes zero x rest h = omega arith
 read-bytes (suc c) x rest h =
     let high = read-bytes c (x / 256) (x % 256 ∷ rest) ((div-lt_iff_lt-mul (lit< tt)).1 (rw pow-suc at h)) in
     let low = get_or_at (bytes_of c (x / 256)) (x % 256) rest 0 (0 + c) (omega (arith, bytes-long c (x / 256))) in
-    rw (append_assoc (bytes_of c (x / 256)) (x % 256 ∷ []) rest) (omega (arith, high, low))
+    let whole : bytes_of (suc c) x ++ rest ≡ bytes_of c (x / 256) ++ (x % 256 ∷ rest) = append_assoc (bytes_of c (x / 256)) (x % 256 ∷ []) rest in
+    let above : big (bytes_of (suc c) x ++ rest) 0 c ≡ x / 256 = ap (λ (l : List ℕ). big l 0 c) whole ∙ high in
+    let below : get_or (bytes_of (suc c) x ++ rest) (0 + c) 0 ≡ x % 256 = ap (λ (l : List ℕ). get_or l (0 + c) 0) whole ∙ low in
+    omega (arith, above, below)
 
 -- at a place
 pub read_bytes_at : (s : List ℕ) (at c x : ℕ) (rest : List ℕ) → drop at s ≡ bytes_of c x ++ rest → x < 256 ^ c → big s at c ≡ x

@@ -1,5 +1,6 @@
 // The listing and the certificate of a job file. The face: either text of any byte string, put into lent room, read as a file of the first edition or of
 // the second. Neighbours ask besides for the line of a refusal.
+#![tactic(auto)]
 
 mod certified;
 mod certifying;

@@ -1,5 +1,7 @@
 // Practice: readings from weights whose true values are known. The face: `practice` for the readings, `practice_file` for the file of a whole practice
 // job.
+#![tactic(auto)]
+
 mod file;
 mod generator;
 mod known;

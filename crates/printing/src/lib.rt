@@ -1,5 +1,7 @@
 // What is put into lent bytes from a place on: bytes, words, numbers in digits, numbers as their bytes, names, what columns are made of. Each
 // function answers the place after what it put; what is past the end is dropped, and counted.
+#![tactic(auto)]
+
 mod columns;
 mod decimals;
 mod names;

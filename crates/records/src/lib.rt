@@ -1,7 +1,8 @@
 // The types that the crates of the bench share. What each call answers with them is said in crates/meaning/specs.
+#![tactic(auto)]
 
 // The sizes of a design: elements, the flag (which addition develops, and whether the fixed object takes part), objects a side, initial blocks.
-#[derive(Drop)]
+#[derive(Clone, Copy)]
 pub struct Head {
     pub n: usize,
     pub flag: usize,
@@ -10,21 +11,21 @@ pub struct Head {
 }
 
 // How a call ends: it accepts, or refuses by the request's number at a place.
-#[derive(Drop)]
+#[derive(Clone, Copy)]
 pub enum Verdict {
     Accepted,
     Refused(u8, usize),
 }
 
 // What stands at a place of a file: a field's body and the byte after it, or the number and place of its refusal.
-#[derive(Drop)]
+#[derive(Clone, Copy)]
 pub enum Field {
     Body(usize, usize),
     Unfit(u8, usize),
 }
 
 // The parameters of a balanced design, as the paper names them: l1 and l2 are its two lambdas.
-#[derive(Drop)]
+#[derive(Clone, Copy)]
 pub struct Parameters {
     pub v: u64,
     pub b: u64,
@@ -36,7 +37,7 @@ pub struct Parameters {
 
 // One object's value: a fraction that is not reduced, its published hundredths of a count, and its f64; then its variance factor, the numerator over the
 // same denominator, and the factor's f64.
-#[derive(Drop)]
+#[derive(Clone, Copy)]
 pub struct Value {
     pub numerator: i64,
     pub denominator: u64,
@@ -47,21 +48,21 @@ pub struct Value {
 }
 
 // A number of two words of 64 bits, the high one first: high times 2 to the power 64, and low.
-#[derive(Drop)]
+#[derive(Clone, Copy)]
 pub struct Wide {
     pub high: u64,
     pub low: u64,
 }
 
 // The spread as an f64 with its degrees of freedom, or none.
-#[derive(Drop)]
+#[derive(Clone, Copy)]
 pub enum Spread {
     Of(f64, u64),
     None,
 }
 
 // What a spread is made from: Q, v times beta, the degrees of freedom, and the whole hundredths.
-#[derive(Drop)]
+#[derive(Clone, Copy)]
 pub struct Spreading {
     pub q: Wide,
     pub vbeta: u64,
@@ -71,14 +72,14 @@ pub struct Spreading {
 }
 
 // The answer of a call that judges a design.
-#[derive(Drop)]
+#[derive(Clone, Copy)]
 pub struct Judged {
     pub verdict: Verdict,
     pub parameters: Parameters,
 }
 
 // The differences that arise in a design: how often object e shares a side with object 0, and how often it opposes it.
-#[derive(Drop)]
+#[derive(Clone, Copy)]
 pub struct Differences {
     pub verdict: Verdict,
     pub within: [u64; 50],
@@ -86,35 +87,35 @@ pub struct Differences {
 }
 
 // The answer of a call for the total of one object.
-#[derive(Drop)]
+#[derive(Clone, Copy)]
 pub struct ObjectTotal {
     pub verdict: Verdict,
     pub total: i64,
 }
 
 // The answer of a call for the value of one object.
-#[derive(Drop)]
+#[derive(Clone, Copy)]
 pub struct ObjectValue {
     pub verdict: Verdict,
     pub value: Value,
 }
 
 // The standard uncertainty of a value: whole hundredths of a count with their f64, or that none is stated.
-#[derive(Drop)]
+#[derive(Clone, Copy)]
 pub enum Uncertainty {
     Stated(u64, f64),
     Unstated,
 }
 
 // The answer of a call for the standard uncertainty of one object.
-#[derive(Drop)]
+#[derive(Clone, Copy)]
 pub struct ObjectUncertainty {
     pub verdict: Verdict,
     pub uncertainty: Uncertainty,
 }
 
 // The answer of a call for the deviation of one block.
-#[derive(Drop)]
+#[derive(Clone, Copy)]
 pub struct BlockDeviation {
     pub verdict: Verdict,
     pub numerator: i64,
@@ -122,21 +123,21 @@ pub struct BlockDeviation {
 }
 
 // The answer of a call for a sum of squares, and for Q.
-#[derive(Drop)]
+#[derive(Clone, Copy)]
 pub struct SquareSum {
     pub verdict: Verdict,
     pub sum: Wide,
 }
 
 // The answer of a call for the spread of a job.
-#[derive(Drop)]
+#[derive(Clone, Copy)]
 pub struct JobSpread {
     pub verdict: Verdict,
     pub spreading: Spreading,
 }
 
 // The answer of a call that works out a whole job, beside what it lays into the lent rooms: the denominator is that of every value.
-#[derive(Drop)]
+#[derive(Clone, Copy)]
 pub struct Solved {
     pub verdict: Verdict,
     pub parameters: Parameters,
@@ -145,7 +146,7 @@ pub struct Solved {
 }
 
 // The answer of a call that reads a job file: its head, the bytes at which its blocks and its readings start, its restraint set and accepted sum.
-#[derive(Drop)]
+#[derive(Clone, Copy)]
 pub struct JobRead {
     pub verdict: Verdict,
     pub head: Head,
@@ -156,7 +157,7 @@ pub struct JobRead {
 }
 
 // The answer of a call that reads a file of the second edition: what reading hands back, and the byte at which the names start, 0 where there are none.
-#[derive(Drop)]
+#[derive(Clone, Copy)]
 pub struct SecondRead {
     pub job: JobRead,
     pub names_at: usize,
@@ -164,7 +165,7 @@ pub struct SecondRead {
 
 // What stands in the fields of a job file, and where: its head; where its blocks, the field of its restraint and its readings start, and how many
 // readings there are; its restraint set and accepted sum.
-#[derive(Drop)]
+#[derive(Clone, Copy)]
 pub struct Held {
     pub head: Head,
     pub blocks_at: usize,
@@ -176,14 +177,14 @@ pub struct Held {
 }
 
 // The answer of a call that writes a job file: how many bytes it wrote.
-#[derive(Drop)]
+#[derive(Clone, Copy)]
 pub struct JobWritten {
     pub verdict: Verdict,
     pub length: usize,
 }
 
 // The answer of a call that writes the listing: how many bytes it wrote.
-#[derive(Drop)]
+#[derive(Clone, Copy)]
 pub struct Listed {
     pub verdict: Verdict,
     pub length: usize,
@@ -191,7 +192,7 @@ pub struct Listed {
 
 // How often two objects meet in a set that is partially balanced with respect to groups, as the paper names it: those of one group share a side l11
 // times and oppose l21 times, those of two groups share a side l12 times and oppose l22 times.
-#[derive(Drop)]
+#[derive(Clone, Copy)]
 pub struct GroupCounts {
     pub l11: u64,
     pub l21: u64,
@@ -200,14 +201,14 @@ pub struct GroupCounts {
 }
 
 // The answer of a call that judges any blocks with respect to groups.
-#[derive(Drop)]
+#[derive(Clone, Copy)]
 pub struct Grouped {
     pub verdict: Verdict,
     pub counts: GroupCounts,
 }
 
 // The parameters of a grouped set: objects, blocks, in how many of them each object stands, objects a side, and its four counts.
-#[derive(Drop)]
+#[derive(Clone, Copy)]
 pub struct GroupParameters {
     pub v: u64,
     pub b: u64,
@@ -217,7 +218,7 @@ pub struct GroupParameters {
 }
 
 // The answer of a call that makes a grouped set from a design, beside the words that it lays into the lent room.
-#[derive(Drop)]
+#[derive(Clone, Copy)]
 pub struct GroupedSet {
     pub verdict: Verdict,
     pub parameters: GroupParameters,
@@ -225,7 +226,7 @@ pub struct GroupedSet {
 
 // The answer of a call that checks a sheet: it agrees; the first object whose claim differs, v where only the spread does; or the number and place of the
 // refusal.
-#[derive(Drop)]
+#[derive(Clone, Copy)]
 pub enum Checked {
     Agrees,
     Differs(usize),
@@ -233,21 +234,21 @@ pub enum Checked {
 }
 
 // What a word of a sheet's text says as a number: whether it is one, and which; 0 where it is none.
-#[derive(Drop)]
+#[derive(Clone, Copy)]
 pub struct Numeral {
     pub read: bool,
     pub number: u64,
 }
 
 // The same of a number with a sign.
-#[derive(Drop)]
+#[derive(Clone, Copy)]
 pub struct SignedNumeral {
     pub read: bool,
     pub number: i64,
 }
 
 // What a sheet's text claims of the spread: whether it says anything, whether that is `none`, the degrees of freedom, and the whole hundredths.
-#[derive(Drop)]
+#[derive(Clone, Copy)]
 pub struct SheetSpread {
     pub read: bool,
     pub none: bool,
@@ -256,7 +257,7 @@ pub struct SheetSpread {
 }
 
 // What was read of a sheet's text: its first line that cannot be read, counted from 1, or 0; how many claims there are; the spread.
-#[derive(Drop)]
+#[derive(Clone, Copy)]
 pub struct SheetRead {
     pub line: usize,
     pub count: usize,
@@ -264,7 +265,7 @@ pub struct SheetRead {
 }
 
 // The answer of a call that pools the spread of several jobs: beside the verdict the index of the job that it speaks of, 0 where it speaks of none.
-#[derive(Drop)]
+#[derive(Clone, Copy)]
 pub struct Pooled {
     pub verdict: Verdict,
     pub index: usize,
@@ -273,7 +274,7 @@ pub struct Pooled {
 
 // A card as far as its words go: what the next word is to be, by the list beside the definition; whether the last one was not what it was to be; the sizes; how
 // many objects of a side or names there are, or the last tag; the restraint; how many readings there are, and bytes of the file that the words give.
-#[derive(Drop)]
+#[derive(Clone, Copy)]
 pub struct Card {
     pub wants: usize,
     pub bad: bool,
@@ -287,7 +288,7 @@ pub struct Card {
 
 // The answer of the call that makes the file of a card: the verdict, whose place is a byte of the card; what was wanted where the card cannot be read, else 0;
 // and how many bytes were written.
-#[derive(Drop)]
+#[derive(Clone, Copy)]
 pub struct CardRead {
     pub verdict: Verdict,
     pub wants: usize,

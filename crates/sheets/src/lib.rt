@@ -1,5 +1,7 @@
 // The text of another laboratory's sheet: its lines `value` and `spread` read into claims. The face: what is read of any byte string, the spread that it
 // claims, whether two words are the same, and which number a word is.
+#![tactic(auto)]
+
 mod claimed;
 mod lines;
 mod numerals;

@@ -1,6 +1,8 @@
 // What a call from C hands back, since a program in C gets back numbers only: its verdict as one number, and its answer in lent slots. hosts/bench.h
 // says what stands in each. The face: a verdict told, and followed by a test for room; and for each answer of a direct call, `lay_..`, which asks for its
 // slots, lays them, and tells the verdict.
+#![tactic(auto)]
+
 mod arrays;
 mod designs;
 mod files;

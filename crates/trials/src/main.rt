@@ -1,4 +1,6 @@
 // Prints, for each file that an argument names, its name and its listing. What it prints is compared with an independent count of the same files.
+#![tactic(auto)]
+
 use libc::STDOUT_FILENO;
 
 fn main() {

@@ -1,4 +1,6 @@
 // How a call ends: whether a verdict refuses, and the zeros that a refusal hands back beside it, for each kind of answer.
+#![tactic(auto)]
+
 ghost use Rattle.std.specs.Prelude.{◌≡◌, true, false};
 ghost use Rattle.meaning.specs.Refusals.{◌⨾◌};
 ghost use Rattle.meaning.specs.Calls.{given, no_parameters, square_sum};

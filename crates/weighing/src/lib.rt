@@ -1,6 +1,8 @@
 // Readings weighed into totals; balance is not asked. The face: the total of one object, the sum of the squared readings, and that of the squared
 // totals. Neighbours ask besides for the tests of the two slices of a job and of the range of its readings, and for all totals from the words of its
 // blocks.
+#![tactic(auto)]
+
 mod adding;
 mod readings;
 mod squares;

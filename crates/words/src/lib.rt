@@ -1,5 +1,7 @@
 // A side of a block, or a restraint set, as a 64-bit word, one bit an object; every count is the language's own. The face: the ones of a word and the
 // walk of its objects, lowest first; in `sides`, an object in a word, two objects in company or in opposition.
+#![tactic(auto)]
+
 mod sides;
 
 ghost use Rattle.std.specs.Prelude.{◌≡◌};

@@ -1,5 +1,7 @@
 // A job's file written from its parts. The face: `write` for the first edition, `write_second` for the second, with or without names;
 // neighbours put the start of a field and the field of a restraint by themselves.
+#![tactic(auto)]
+
 mod encoding;
 mod file;
 mod second;

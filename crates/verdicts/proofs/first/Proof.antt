@@ -5,11 +5,11 @@ use Rattle.verdicts.proofs.Told.{refusing_first, accepting_first}
 use Rattle.verdicts.proofs.first.Statement.{statement}
 use Rattle.verdicts.proofs.first.Tie as tie
 
-returns : tie.Need-returns
-returns c = search (refusing_first c.before.before.args.before c.before.before.args.after (sym c.before.is-refused.ensures ∙ c.if1.true))
+returns : tie.Need-returns-then-is_refused
+returns c = search (refusing_first c.before.before.args.before c.before.before.args.after (sym c.before.is_refused.ensures ∙ c.if-is_refused.true))
 
-returns-2 : tie.Need-returns-2
-returns-2 c = search (accepting_first c.before.before.args.before c.before.before.args.after (sym c.before.is-refused.ensures ∙ c.if1.false))
+returns-2 : tie.Need-returns
+returns-2 c = search (accepting_first c.before.before.args.before c.before.before.args.after (sym c.before.is_refused.ensures ∙ c.if-is_refused.false))
 
 pub first_spec : {M : Type 1} → statement M
 first_spec = tie.close (tie.spec (λ c κs. search rules) returns returns-2)

@@ -4,7 +4,7 @@ use Rattle.verdicts.proofs.no_judgement.Statement.{statement}
 use Rattle.verdicts.proofs.no_judgement.Tie as tie
 
 returns : tie.Need-returns
-returns c = rw c.no-parameters.ensures (search rules)
+returns c = rw c.no_parameters-parameters.ensures (search rules)
 
 pub no_judgement_spec : {M : Type 1} → statement M
 no_judgement_spec = tie.close (tie.spec (λ c κs. search rules) returns)

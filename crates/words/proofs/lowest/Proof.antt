@@ -5,7 +5,7 @@ use native.Mathlib.Omega.{arith}
 use Rattle.words.proofs.lowest.Statement.{statement}
 use Rattle.words.proofs.lowest.Tie as tie
 
-cast_result : tie.Need-overflow-cast-result
+cast_result : tie.Need-overflow_cast-result
 cast_result c = omega (arith, trailing_le 64 c.args.word)
 
 returns : tie.Need-returns

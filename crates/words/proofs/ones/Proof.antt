@@ -5,7 +5,7 @@ use native.Mathlib.Omega.{arith}
 use Rattle.words.proofs.ones.Statement.{statement}
 use Rattle.words.proofs.ones.Tie as tie
 
-cast_result : tie.Need-overflow-cast-result
+cast_result : tie.Need-overflow_cast-result
 cast_result c = omega (arith, ones-le 64 c.args.word c.ranges.word.fits)
 
 returns : tie.Need-returns

@@ -5,10 +5,10 @@ use borrow.Author.Rules.{rules}
 use Rattle.words.proofs.without_lowest.Statement.{statement}
 use Rattle.words.proofs.without_lowest.Tie as tie
 
-returns : tie.Need-returns
-returns c = rw (c.if1.true, rest-none) (search rules)
+returns : tie.Need-returns-then-word-eq0
+returns c = rw (c.if-word-eq0.true, rest-none) (search rules)
 
-returns-2 : tie.Need-returns-2
+returns-2 : tie.Need-returns
 returns-2 c = rw (← rest_masked c.before.args.word (omega arith) c.before.ranges.word.fits) (search rules)
 
 pub without_lowest_spec : {M : Type 1} → statement M

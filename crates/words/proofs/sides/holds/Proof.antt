@@ -7,13 +7,13 @@ use borrow.Author.Rules.{rules}
 use Rattle.words.proofs.sides.holds.Statement.{statement}
 use Rattle.words.proofs.sides.holds.Tie as tie
 
-returns : tie.Need-returns
+returns : tie.Need-returns-then-i-gt63
 returns c = sym (bit_past 64 c.before.args.word c.before.args.i c.before.ranges.word.fits (omega arith))
 
-cast_result : tie.Need-overflow-cast-result
+cast_result : tie.Need-overflow_cast-result
 cast_result c = omega (arith, place-left c.before.args.word c.before.args.i (omega arith), bit-most c.before.args.word c.before.args.i)
 
-returns-2 : tie.Need-returns-2
+returns-2 : tie.Need-returns
 returns-2 c = place-left c.before.args.word c.before.args.i (omega arith)
 
 pub holds_spec : {M : Type 1} → statement M

@@ -6,17 +6,17 @@ use borrow.Author.Rules.{rules}
 use Rattle.words.proofs.sides.in_company.Statement.{statement}
 use Rattle.words.proofs.sides.in_company.Tie as tie
 
-returns : tie.Need-returns
+returns : tie.Need-returns-then-i-gt63
 returns c = rw (bit_past 64 c.before.args.word c.before.args.i c.before.ranges.word.fits (omega arith)) (omega arith)
 
-returns-2 : tie.Need-returns-2
+returns-2 : tie.Need-returns-then-j-gt63
 returns-2 c = rw (bit_past 64 c.before.before.args.word c.before.before.args.j c.before.before.ranges.word.fits (omega arith)) (omega arith)
 
-returns-3 : tie.Need-returns-3
+returns-3 : tie.Need-returns-then-word-pair
 returns-3 c = pair_full c.before.before.before.args.word c.before.before.before.args.i c.before.before.before.args.j
     (omega arith) (omega arith) (search rules)
 
-returns-4 : tie.Need-returns-4
+returns-4 : tie.Need-returns-else-word-pair
 returns-4 c = pair-part c.before.before.before.args.word c.before.before.before.args.i c.before.before.before.args.j
     (omega arith) (omega arith) (search rules)
 

@@ -9,12 +9,12 @@ use Rattle.words.proofs.sides.in_opposition.Statement.{statement}
 use Rattle.words.proofs.sides.in_opposition.Tie as tie
 
 -- what is multiplied are the two bits
-product : (c : tie.After-holds2) →
-    c.before.holds.result * c.holds2.result ≡ opposition_of c.before.before.args.own c.before.before.args.other
+product : (c : tie.After-holds-2) →
+    c.before.holds.result * c.holds-2.result ≡ opposition_of c.before.before.args.own c.before.before.args.other
     c.before.before.args.i c.before.before.args.j
-product c = rw (c.before.holds.ensures, c.holds2.ensures) (omega arith)
+product c = rw (c.before.holds.ensures, c.holds-2.ensures) (omega arith)
 
-mul_result : tie.Need-overflow-mul-result
+mul_result : tie.Need-overflow_mul-result
 mul_result c =
     let a = c.before.before.args in
     omega (arith, product c, product-most a.own a.other a.i a.j)

@@ -60,7 +60,9 @@ bit_or_lem a b k = ap (λ (x : ℕ). x % 2) (or_shr a b k) ∙ or_mod (a / 2 ^ k
 
 -- a bit that is 1 in one of two masks is 1 in both together
 or_one : (x : ℕ) → x ≤ 1 → bit_or 1 x ≡ 1
-or_one x h = omega arith
+or_one zero h = refl
+or_one (suc zero) h = refl
+or_one (suc (suc x)) h = absurd (omega arith)
 
 -- a mask of two places has two ones
 ones_pair : (i j : ℕ) → (i ≡ j → ⊥) → ones (bit_or (2 ^ i) (2 ^ j)) ≡ 2

@@ -6,11 +6,11 @@ use Rattle.arithmetic.proofs.Exact.{exact-is}
 use Rattle.arithmetic.proofs.quotient.divided.Statement.{statement}
 use Rattle.arithmetic.proofs.quotient.divided.Tie as tie
 
-int_to_float_result : tie.Need-int-to-float-result
-int_to_float_result c = rw (to_z-of_z c.before.ranges.numerator) (in_float_lem c.before.args.numerator (exact-is _ _ c.before.requires).top)
+int_to_float_result : tie.Need-int_to_float-result
+int_to_float_result c = rw (to_z-of_z c.ranges.numerator) (in_float_lem c.args.numerator (exact-is _ _ c.requires).top)
 
-int_to_float_result_2 : tie.Need-int-to-float-result-2
-int_to_float_result_2 c = in_float_lem (pos c.before.before.args.denominator) (exact-is _ _ c.before.before.requires).bottom
+int_to_float_result_2 : tie.Need-int_to_float-result-2
+int_to_float_result_2 c = in_float_lem (pos c.args.denominator) (exact-is _ _ c.requires).bottom
 
 returns : tie.Need-returns
 returns c =

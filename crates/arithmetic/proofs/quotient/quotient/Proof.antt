@@ -8,20 +8,20 @@ use Rattle.arithmetic.specs.Quotient.{exact, quotient_of}
 use Rattle.arithmetic.proofs.quotient.quotient.Statement.{statement}
 use Rattle.arithmetic.proofs.quotient.quotient.Tie as tie
 
-inside : (c : tie.Then1) → exact c.before.before.args.numerator c.before.before.args.denominator ≡ true
-inside c = sym (rw (to_z-of_z c.before.before.ranges.numerator) at c.before.is-exact.ensures) ∙ c.if1.true
+inside : (c : tie.Then-is_exact) → exact c.args.numerator c.args.denominator ≡ true
+inside c = sym (rw (to_z-of_z c.ranges.numerator) at c.is_exact.ensures) ∙ c.if-is_exact.true
 
-outside : (c : tie.Else1) → exact c.before.before.args.numerator c.before.before.args.denominator ≡ false
-outside c = sym (rw (to_z-of_z c.before.before.ranges.numerator) at c.before.is-exact.ensures) ∙ c.if1.false
+outside : (c : tie.Else-is_exact) → exact c.args.numerator c.args.denominator ≡ false
+outside c = sym (rw (to_z-of_z c.ranges.numerator) at c.is_exact.ensures) ∙ c.if-is_exact.false
 
 divided_requires : tie.Need-divided-requires
-divided_requires c κs = rw (to_z-of_z c.before.before.ranges.numerator) (inside c)
+divided_requires c κs = rw (to_z-of_z c.ranges.numerator) (inside c)
 
-returns : tie.Need-returns
+returns : tie.Need-returns-then-is_exact
 unfolding quotient_of
-returns c = rw (inside c.before) (rw (to_z-of_z c.before.before.before.ranges.numerator) at c.divided.ensures)
+returns c = rw (inside c.before) (rw (to_z-of_z c.ranges.numerator) at c.divided.ensures)
 
-returns-2 : tie.Need-returns-2
+returns-2 : tie.Need-returns-else-is_exact
 unfolding of_bits quotient_of
 returns-2 c = rw (outside c)
 

@@ -13,26 +13,26 @@ use Rattle.algebra.proofs.Signs.{plain, not-below, size_below, flipped, size_fit
 use Rattle.arithmetic.proofs.quotient.size.Statement.{statement}
 use Rattle.arithmetic.proofs.quotient.size.Tie as tie
 
-module _ (c : tie.Then1) where
-  below : lt_z c.before.args.x (pos 0) ≡ true
-  below = plain c.before.args.x c.before.ranges.x c.if1.true
+module _ (c : tie.Then-x-lt0) where
+  below : lt_z c.args.x (pos 0) ≡ true
+  below = plain c.args.x c.ranges.x c.if-x-lt0.true
 
-  flip : to_z w64 (2 ^ 64 - 1 - of_z w64 c.before.args.x) ≡ pos (mag c.before.args.x)
-  flip = flipped c.before.args.x c.before.ranges.x below
+  flip : to_z w64 (2 ^ 64 - 1 - of_z w64 c.args.x) ≡ pos (mag c.args.x)
+  flip = flipped c.args.x c.ranges.x below
 
-cast_result : tie.Need-overflow-cast-result
-cast_result c = rw (flip c) (tt, record { fits = omega (arith, c.before.ranges.x.sfits) })
+cast_result : tie.Need-overflow_cast-result
+cast_result c = rw (flip c) (tt, record { fits = omega (arith, c.ranges.x.sfits) })
 
-add_result : tie.Need-overflow-add-result
-add_result c = rw (flip c) (record { fits = omega (arith, c.before.ranges.x.sfits) })
+add_result : tie.Need-overflow_add-result
+add_result c = rw (flip c) (record { fits = omega (arith, c.ranges.x.sfits) })
 
-cast_result_2 : tie.Need-overflow-cast-result-2
+cast_result_2 : tie.Need-overflow_cast-result-else-x-lt0
 cast_result_2 c =
-    let x = c.before.args.x in
-    rw (to_z-of_z c.before.ranges.x) (not-below x (plain x c.before.ranges.x c.if1.false), size_fits x c.before.ranges.x)
+    let x = c.args.x in
+    rw (to_z-of_z c.ranges.x) (not-below x (plain x c.ranges.x c.if-x-lt0.false), size_fits x c.ranges.x)
 
-returns : tie.Need-returns
-returns c = rw (flip c) (search (sym (size_below c.before.args.x (below c))))
+returns : tie.Need-returns-then-x-lt0
+returns c = rw (flip c) (search (sym (size_below c.args.x (below c))))
 
 pub size_spec : {M : Type 1} → statement M
 size_spec = tie.close (tie.spec cast_result add_result cast_result_2 returns (λ c. search rules))

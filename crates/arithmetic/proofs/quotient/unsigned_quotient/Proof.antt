@@ -12,13 +12,13 @@ use Rattle.arithmetic.proofs.Exact.{top-large}
 use Rattle.arithmetic.proofs.quotient.unsigned_quotient.Statement.{statement}
 use Rattle.arithmetic.proofs.quotient.unsigned_quotient.Tie as tie
 
-returns : tie.Need-returns
+returns : tie.Need-returns-then-numerator-ge9007199254740992
 unfolding of_bits quotient_of
 returns c =
-    let outside : exact (pos c.before.args.numerator) c.before.args.denominator ≡ false = top-large _ _ (omega arith) in
+    let outside : exact (pos c.args.numerator) c.args.denominator ≡ false = top-large _ _ (omega arith) in
     rw outside
 
-returns-2 : tie.Need-returns-2
+returns-2 : tie.Need-returns
 returns-2 c =
     let s = c.before.before in
     search (c.quotient.ensures ∙ ap (λ (z : ℤ). quotient_of z s.args.denominator) (to_z_pos w64 {n = s.args.numerator} (omega arith)))

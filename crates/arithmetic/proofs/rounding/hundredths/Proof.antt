@@ -14,42 +14,42 @@ use Rattle.arithmetic.proofs.rounding.hundredths.Statement.{statement}
 use Rattle.arithmetic.proofs.rounding.hundredths.Tie as tie
 
 -- what is known once the size is in hand
-module _ (c : tie.After-size) where
+module _ (c : tie.After-size-magnitude) where
   abbrev start : tie.Start
   start = c.before.before.before
 
   range : Exact start.args.numerator start.args.denominator
-  range = exact-is _ _ (sym (rw (to_z-of_z start.fits.numerator) at c.before.before.is-exact.ensures) ∙ c.before.if1.true)
+  range = exact-is _ _ (sym (rw (to_z-of_z start.ranges.numerator) at c.is_exact.ensures) ∙ c.if-is_exact.true)
 
-  size : c.size.result ≡ nat_abs start.args.numerator
-  size = rw (to_z-of_z start.fits.numerator) at c.size.ensures
+  size : c.size-magnitude.result ≡ nat_abs start.args.numerator
+  size = rw (to_z-of_z start.ranges.numerator) at c.size-magnitude.ensures
 
-mul_nearest : tie.Need-overflow-mul-nearest
+mul_nearest : tie.Need-overflow_mul-magnitude
 mul_nearest c = omega (arith, range c, size c)
 
 nearest_requires : tie.Need-nearest-requires
 nearest_requires c κs = omega (arith, range c, size c)
 
-with_sign_requires : tie.Need-with-sign-requires
+with_sign_requires : tie.Need-with_sign-requires
 with_sign_requires c κs = omega (
   arith,
   range c.before,
   size c.before,
   c.nearest.ensures,
-  nearest-most (100 * c.before.size.result) c.before.before.before.before.args.denominator,
+  nearest-most (100 * c.size-magnitude.result) c.args.denominator,
 )
 
-returns : tie.Need-returns
+returns : tie.Need-returns-then-is_exact
 returns c =
     let s = c.before.before in
-    read_back c.with-sign.result c.with-sign.type-inv
-    ∙ (rw (to_z-of_z (start s).ranges.numerator) at c.with-sign.ensures)
-    ∙ ap (signed (minus (start s).args.numerator)) (c.before.nearest.ensures ∙ ap (λ (m : ℕ). nearest (100 * m) (start s).args.denominator) (size s))
+    read_back c.with_sign.result c.with_sign.type_inv
+    ∙ (rw (to_z-of_z (start s).ranges.numerator) at c.with_sign.ensures)
+    ∙ ap (signed (minus (start s).args.numerator)) (c.nearest.ensures ∙ ap (λ (m : ℕ). nearest (100 * m) (start s).args.denominator) (size s))
     ∙ sym (hundredths-is _ _ (range s))
 
-returns-2 : tie.Need-returns-2
+returns-2 : tie.Need-returns-else-is_exact
 unfolding hundredths_of
-returns-2 c = rw (sym (rw (to_z-of_z c.before.before.ranges.numerator) at c.before.is-exact.ensures) ∙ c.if1.false) (search rules)
+returns-2 c = rw (sym (rw (to_z-of_z c.ranges.numerator) at c.is_exact.ensures) ∙ c.if-is_exact.false) (search rules)
 
 pub hundredths_spec : {M : Type 1} → statement M
 hundredths_spec =

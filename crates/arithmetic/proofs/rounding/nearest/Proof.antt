@@ -6,23 +6,23 @@ use native.Mathlib.Omega.{arith}
 use Rattle.arithmetic.proofs.rounding.nearest.Statement.{statement}
 use Rattle.arithmetic.proofs.rounding.nearest.Tie as tie
 
-mul_twice : tie.Need-overflow-mul-twice
+mul_twice : tie.Need-overflow_mul-twice
 mul_twice c = omega (arith, mod-lt c.args.a c.requires.0)
 
-returns : tie.Need-returns
-returns c = rw (lt-ltb _ _ c.if1.true) (search rules)
+returns : tie.Need-returns-then-twice-d
+returns c = rw (lt-ltb _ _ c.if-twice-d.true) (search rules)
 
-add_result : tie.Need-overflow-add-result
-add_result c = omega (arith, div-le_self c.before.before.args.a c.before.before.args.d)
+add_result : tie.Need-overflow_add-result
+add_result c = omega (arith, div-le_self c.args.a c.args.d)
 
-returns-2 : tie.Need-returns-2
-returns-2 c = rw (le-ltb _ _ c.before.if1.false, lt-ltb _ _ c.if2.true) (search rules)
+returns-2 : tie.Need-returns-then-d-twice
+returns-2 c = rw (le-ltb _ _ c.if-twice-d.false, lt-ltb _ _ c.if-d-twice.true) (search rules)
 
-add_result_2 : tie.Need-overflow-add-result-2
-add_result_2 c = omega (arith, div-le_self c.before.before.args.a c.before.before.args.d)
+add_result_2 : tie.Need-overflow_add-result-2
+add_result_2 c = omega (arith, div-le_self c.args.a c.args.d)
 
-returns-3 : tie.Need-returns-3
-returns-3 c = rw (le-ltb _ _ c.before.if1.false, le-ltb _ _ c.if2.false) (search rules)
+returns-3 : tie.Need-returns
+returns-3 c = rw (le-ltb _ _ c.if-twice-d.false, le-ltb _ _ c.if-d-twice.false) (search rules)
 
 pub nearest_spec : {M : Type 1} → statement M
 nearest_spec =

@@ -14,35 +14,35 @@ use Rattle.arithmetic.proofs.spread.hundredths_from.Statement.{statement}
 use Rattle.arithmetic.proofs.spread.hundredths_from.Tie as tie
 
 -- what is known inside the range
-module _ (c : tie.Then2) where
+module _ (c : tie.Then-is_ranged) where
   abbrev start : tie.Start
   start = c.before.before.before
 
   range : Ranged (value start.args.q) start.args.vbeta start.args.freedom
-  range = ranged-is _ _ _ (sym c.before.is-ranged.ensures ∙ c.if2.true)
+  range = ranged-is _ _ _ (sym c.is_ranged.ensures ∙ c.if-is_ranged.true)
 
   product : (0 < start.args.vbeta * start.args.freedom) × (start.args.vbeta * start.args.freedom < 2 ^ 32)
   product = product_range _ _ _ range (omega arith)
 
-returns : tie.Need-returns
+returns : tie.Need-returns-then-freedom-eq0
 returns c =
-    let none : 0 ≡ c.before.args.freedom = omega arith in
-    let q = value c.before.args.q in
-    search (sym (no_freedom q c.before.args.vbeta) ∙ ap (hundredths_from q c.before.args.vbeta) none)
+    let none : 0 ≡ c.args.freedom = omega arith in
+    let q = value c.args.q in
+    search (sym (no_freedom q c.args.vbeta) ∙ ap (hundredths_from q c.args.vbeta) none)
 
-returns-2 : tie.Need-returns-2
+returns-2 : tie.Need-returns-then-is_ranged
 returns-2 c =
-    let t = c.before.before.before in
+    let t = c.before.before.before.before in
     let q = value (start t).args.q in
     let d = (start t).args.vbeta * (start t).args.freedom in
-    let e = c.before.before.times.ensures in
+    let e = c.times-scaled.ensures in
     let w = are_words (q * 10000) e in
-    let scaled : value c.before.before.times.result ≡ 10000 * q = exact (q * 10000) (scaled_fits q (range t).q_most) e ∙ mul_comm q 10000 in
-    let part = quotient_value c.before.before.times.result d w.0 w.1 (product t).0 (product t).1 c.before.divide.ensures in
+    let scaled : value c.times-scaled.result ≡ 10000 * q = exact (q * 10000) (scaled_fits q (range t).q_most) e ∙ mul_comm q 10000 in
+    let part = quotient_value c.times-scaled.result d w.0 w.1 (product t).0 (product t).1 c.divide-part.ensures in
     c.root.ensures ∙ ap (root 64) (part ∙ ap (λ (n : ℕ). n / d) scaled) ∙ sym (root_of_quotient _ _ _ (range t) (omega arith))
 
-returns-3 : tie.Need-returns-3
-returns-3 c = sym (hundredths-none _ _ _ (sym c.before.is-ranged.ensures ∙ c.if2.false))
+returns-3 : tie.Need-returns-else-is_ranged
+returns-3 c = sym (hundredths-none _ _ _ (sym c.is_ranged.ensures ∙ c.if-is_ranged.false))
 
 pub hundredths_from_spec : {M : Type 1} → statement M
 hundredths_from_spec =

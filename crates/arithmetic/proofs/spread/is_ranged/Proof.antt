@@ -7,21 +7,21 @@ use Rattle.arithmetic.proofs.Spreads.{is-ranged, not-ranged}
 use Rattle.arithmetic.proofs.spread.is_ranged.Statement.{statement}
 use Rattle.arithmetic.proofs.spread.is_ranged.Tie as tie
 
-returns : tie.Need-returns
+returns : tie.Need-returns-then-q-ge524288
 returns c = sym (not-ranged _ _ _ (λ r. omega arith))
 
-returns-2 : tie.Need-returns-2
+returns-2 : tie.Need-returns-then-vbeta-lt1
 returns-2 c = sym (not-ranged _ _ _ (λ r. omega arith))
 
-returns-3 : tie.Need-returns-3
+returns-3 : tie.Need-returns-then-vbeta-gt2600
 returns-3 c = sym (not-ranged _ _ _ (λ r. omega arith))
 
-returns-4 : tie.Need-returns-4
+returns-4 : tie.Need-returns-then-freedom-gt83200
 returns-4 c = sym (not-ranged _ _ _ (λ r. omega arith))
 
-returns-5 : tie.Need-returns-5
+returns-5 : tie.Need-returns
 returns-5 c =
-    let q = c.before.before.before.before.before.args.q in
+    let q = c.args.q in
     sym (is-ranged _ _ _ (record {
       q_most = fewer (2 ^ 64) q.high 524288 q.low 0 (omega arith) (omega arith);
       vbeta-some = omega arith;

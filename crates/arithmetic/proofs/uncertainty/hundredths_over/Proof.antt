@@ -30,61 +30,61 @@ module _ (c : tie.Start) where
   divisor = divisor_range _ _ _ _ _ range
 
 -- the product and the test
-module _ (c : tie.After-at-most) where
+module _ (c : tie.After-at_most) where
   abbrev start : tie.Start
   start = c.before.before
 
-  scaled : value c.before.times.result ≡ x start
-  scaled = exact (x start) (omega (arith, x_most start)) c.before.times.ensures
+  scaled : value c.times-scaled.result ≡ x start
+  scaled = exact (x start) (omega (arith, x_most start)) c.times-scaled.ensures
 
   tested : c.at_most.result ≡ leb (x start) 0
   tested = c.at_most.ensures ∙ ap (λ (n : ℕ). leb n 0) scaled
 
-returns : tie.Need-returns
-returns c = let s = start c.before in sym (hundredths-none _ _ _ _ _ s.pre.1 (leb-true _ _ (sym (tested c.before) ∙ c.if1.true)))
+returns : tie.Need-returns-then-at_most
+returns c = let s = start c.before in sym (hundredths-none _ _ _ _ _ s.requires.1 (leb-true _ _ (sym (tested c.before) ∙ c.if-at_most.true)))
 
 -- the two quotients
-module _ (c : tie.After-divide2) where
-  abbrev subtracted : tie.After-subtract
-  subtracted = c.before.before
+module _ (c : tie.After-divide-second) where
+  abbrev subtracted : tie.After-subtract-less
+  subtracted = c.before.before.before
 
   abbrev begun : tie.Start
   begun = start subtracted.before.before
 
   some : 0 < x begun
-  some = leb-false _ _ (sym (tested subtracted.before.before) ∙ subtracted.before.if1.left)
+  some = leb-false _ _ (sym (tested subtracted.before.before) ∙ subtracted.if-at_most.left)
 
-  less : value subtracted.subtract.result ≡ x begun - 1
+  less : value subtracted.subtract-less.result ≡ x begun - 1
   less =
-      let e = subtracted.subtract.ensures ∙ ap (λ (n : ℕ). wide (n - 1)) (scaled subtracted.before.before) in
+      let e = subtracted.subtract-less.ensures ∙ ap (λ (n : ℕ). wide (n - 1)) (scaled subtracted.before.before) in
       exact (x begun - 1) (omega (arith, x_most begun)) e
 
-  quotient : value c.divide2.result.quotient ≡ (x begun - 1) / (begun.args.denominator * begun.args.vbeta) / begun.args.freedom
+  quotient : value c.divide-second.result.quotient ≡ (x begun - 1) / (begun.args.denominator * begun.args.vbeta) / begun.args.freedom
   quotient =
-      let w = are_words _ subtracted.subtract.ensures in
+      let w = are_words _ subtracted.subtract-less.ensures in
       let d = begun.args.denominator * begun.args.vbeta in
-      let first = quotient_value subtracted.subtract.result d w.0 w.1 (divisor begun).0 (divisor begun).1 c.before.divide.ensures in
-      let z = quotient_words subtracted.subtract.result d w.0 w.1 (divisor begun).0 (divisor begun).1 c.before.divide.ensures in
-      let second = quotient_value c.before.divide.result.quotient begun.args.freedom z.0 z.1 begun.pre.1
-      (omega (arith, (range begun).spread.freedom-most)) c.divide2.ensures in
+      let first = quotient_value subtracted.subtract-less.result d w.0 w.1 (divisor begun).0 (divisor begun).1 c.divide-first.ensures in
+      let z = quotient_words subtracted.subtract-less.result d w.0 w.1 (divisor begun).0 (divisor begun).1 c.divide-first.ensures in
+      let second = quotient_value c.divide-first.result.quotient begun.args.freedom z.0 z.1 begun.requires.1
+      (omega (arith, (range begun).spread.freedom-most)) c.divide-second.ensures in
       second ∙ ap (λ (n : ℕ). n / begun.args.freedom) (first ∙ ap (λ (n : ℕ). n / d) less)
 
-rooted : (c : tie.After-root) → c.root.result ≡ root 64 ((x (begun c.before) - 1) / ((begun c.before).args.denominator * (begun c.before).args.vbeta)
-    / (begun c.before).args.freedom)
-rooted c = c.root.ensures ∙ ap (root 64) (quotient c.before)
+rooted : (c : tie.After-root) → c.root.result ≡ root 64 ((x (begun c.before.before) - 1) / ((begun c.before.before).args.denominator * (begun c.before.before).args.vbeta)
+    / (begun c.before.before).args.freedom)
+rooted c = c.root.ensures ∙ ap (root 64) (quotient c.before.before)
 
-add_result : tie.Need-overflow-add-result
+add_result : tie.Need-overflow_add-result
 add_result c =
-    let s = begun c.before in
+    let s = begun c.before.before in
     let first = (x s - 1) / (s.args.denominator * s.args.vbeta) in
     let under : first / s.args.freedom ≤ x s =
     omega (arith, div-le_self first s.args.freedom, div-le_self (x s - 1) (s.args.denominator * s.args.vbeta)) in
     omega (arith, rooted c, root-small (first / s.args.freedom) (omega (arith, x_most s)))
 
-returns-2 : tie.Need-returns-2
+returns-2 : tie.Need-returns
 returns-2 c =
-    let s = begun c.before in
-    ap (λ (n : ℕ). n + 1) (rooted c) ∙ sym (hundredths-some _ _ _ _ _ s.pre.1 (some c.before))
+    let s = begun c.before.before in
+    ap (λ (n : ℕ). n + 1) (rooted c) ∙ sym (hundredths-some _ _ _ _ _ s.requires.1 (some c.before.before))
 
 pub hundredths_over_spec : {M : Type 1} → statement M
 hundredths_over_spec =

@@ -8,20 +8,20 @@ use Rattle.arithmetic.proofs.Uncertainties.{stated-is, none_free, none_outside, 
 use Rattle.arithmetic.proofs.uncertainty.uncertainty_from.Statement.{statement}
 use Rattle.arithmetic.proofs.uncertainty.uncertainty_from.Tie as tie
 
-returns : tie.Need-returns
+returns : tie.Need-returns-then-freedom-eq0
 returns c =
-    let a = c.before.args in
+    let a = c.args in
     let none : a.freedom ≡ 0 = omega arith in
     rw none (search (sym (none_free (value a.q) a.denominator a.vbeta a.factor)))
 
-returns-2 : tie.Need-returns-2
+returns-2 : tie.Need-returns-then-is_stated
 returns-2 c =
     let t = c.before.before in
-    let r = stated-is _ _ _ _ _ (sym t.before.is-stated.ensures ∙ t.if2.true) in
-    search (some-stated _ _ _ _ _ _ _ r (omega arith) c.before.hundredths-over.ensures c.unsigned-quotient.ensures)
+    let r = stated-is _ _ _ _ _ (sym t.is_stated.ensures ∙ t.if-is_stated.true) in
+    search (some-stated _ _ _ _ _ _ _ r (omega arith) c.hundredths_over-hundredths.ensures c.unsigned_quotient-value.ensures)
 
-returns-3 : tie.Need-returns-3
-returns-3 c = search (sym (none_outside _ _ _ _ _ (sym c.before.is-stated.ensures ∙ c.if2.false)))
+returns-3 : tie.Need-returns-else-is_stated
+returns-3 c = search (sym (none_outside _ _ _ _ _ (sym c.is_stated.ensures ∙ c.if-is_stated.false)))
 
 pub uncertainty_from_spec : {M : Type 1} → statement M
 uncertainty_from_spec =
@@ -29,7 +29,7 @@ uncertainty_from_spec =
     (tie.spec
     returns
     (λ c κs. search rules)
-    (λ c κs. (sym c.before.is-stated.ensures ∙ c.if2.true, omega arith))
+    (λ c κs. (sym c.is_stated.ensures ∙ c.if-is_stated.true, omega arith))
     (λ c κs. search rules)
     returns-2
     returns-3)

@@ -8,8 +8,8 @@ use Rattle.arithmetic.proofs.wide.add.Tie as tie
 
 returns : tie.Need-returns
 returns c =
-    let a = c.before.before.before.args in
-    carried _ (a.x.high + a.y.high) (a.x.low + a.y.low) c.before.before.sum.ensures c.before.sum2.ensures c.sum3.ensures (omega arith)
+    let a = c.args in
+    carried _ (a.x.high + a.y.high) (a.x.low + a.y.low) c.sum-low.ensures c.sum-high.ensures c.sum-carried.ensures (omega arith)
 
 pub add_spec : {M : Type 1} → statement M
 add_spec = tie.close (tie.spec (λ c κs. search rules) (λ c κs. search rules) (λ c κs. search rules) returns)

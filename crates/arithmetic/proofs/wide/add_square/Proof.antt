@@ -10,9 +10,9 @@ use Rattle.arithmetic.proofs.wide.add_square.Tie as tie
 
 returns : tie.Need-returns
 returns c =
-    let a = c.before.before.args in
+    let a = c.args in
     let s = a.size in
-    c.add.ensures ∙ ap (λ (n : ℕ). wide (value a.sum + n)) (product_value s s (omega arith) (omega arith) c.before.product.ensures)
+    c.add.ensures ∙ ap (λ (n : ℕ). wide (value a.sum + n)) (product_value s s (omega arith) (omega arith) c.product.ensures)
 
 pub add_square_spec : {M : Type 1} → statement M
 add_square_spec = tie.close (tie.spec (λ c κs. search rules) (λ c κs. search rules) returns)

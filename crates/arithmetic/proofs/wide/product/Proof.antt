@@ -25,28 +25,28 @@ module _ (c : tie.Start) where
   parts : c.args.a * c.args.b ≡ (c.args.a / 2 ^ 32 * 2 ^ 32 + c.args.a % 2 ^ 32) * (c.args.b / 2 ^ 32 * 2 ^ 32 + c.args.b % 2 ^ 32)
   parts = sym (ap₂ ◌*◌ (div-add-mod' c.args.a (2 ^ 32)) (div-add-mod' c.args.b (2 ^ 32)))
 
-mul_first : tie.Need-overflow-mul-first
+mul_first : tie.Need-overflow_mul-first
 mul_first c = omega (arith, low c)
 
-mul_second : tie.Need-overflow-mul-second
+mul_second : tie.Need-overflow_mul-second
 mul_second c = omega (arith, left c)
 
-add_second : tie.Need-overflow-add-second
+add_second : tie.Need-overflow_add-second
 add_second c = omega (arith, low c, left c)
 
-mul_third : tie.Need-overflow-mul-third
+mul_third : tie.Need-overflow_mul-third
 mul_third c = omega (arith, right c)
 
-add_third : tie.Need-overflow-add-third
+add_third : tie.Need-overflow_add-third
 add_third c = omega (arith, right c)
 
-mul_t10 : tie.Need-overflow-mul-t10
+mul_t10 : tie.Need-overflow_mul-result
 mul_t10 c = omega (arith, high c)
 
-add_t12 : tie.Need-overflow-add-t12
+add_t12 : tie.Need-overflow_add-result
 add_t12 c = omega (arith, high c, left c, low c)
 
-add_t14 : tie.Need-overflow-add-t14
+add_t14 : tie.Need-overflow_add-result-2
 add_t14 c = omega (arith, high c, left c, low c, right c)
 
 returns : tie.Need-returns

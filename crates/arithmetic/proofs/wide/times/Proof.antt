@@ -8,8 +8,8 @@ use Rattle.arithmetic.proofs.wide.times.Tie as tie
 
 returns : tie.Need-returns
 returns c =
-    let a = c.before.before.before.args in
-    carried _ (a.x.high * a.c) (a.x.low * a.c) c.before.before.product.ensures c.before.product2.ensures c.sum.ensures (omega arith)
+    let a = c.args in
+    carried _ (a.x.high * a.c) (a.x.low * a.c) c.product-low.ensures c.product-high.ensures c.sum-top.ensures (omega arith)
 
 pub times_spec : {M : Type 1} → statement M
 times_spec = tie.close (tie.spec (λ c κs. search rules) (λ c κs. search rules) (λ c κs. search rules) returns)

@@ -9,11 +9,11 @@ use Rattle.meaning.specs.Sheet.{claim}
 use Rattle.claims.proofs.comparing.figure.Statement.{statement}
 use Rattle.claims.proofs.comparing.figure.Tie as tie
 
-returns : tie.Need-returns
-returns c = let a = c.before.args in sym (get_or-eq_default a.list.now (pos 0) (omega arith))
+returns : tie.Need-returns-then-list-i
+returns c = let a = c.args in sym (get_or-eq_default a.list.now (pos 0) (omega arith))
 
-returns-2 : tie.Need-returns-2
-returns-2 c = let a = c.before.before.args in search (read_back (claim a.list.now a.i) c.result.given)
+returns-2 : tie.Need-returns
+returns-2 c = let a = c.args in search (read_back (claim a.list.now a.i) c.result-1.given)
 
 pub figure_spec : {M : Type 1} → statement M
 figure_spec = tie.close (tie.spec returns (λ c. omega arith) (λ c. omega arith) returns-2)

@@ -7,10 +7,10 @@ use Rattle.numbers.proofs.unsigned.Bytes.{big_past}
 use Rattle.numbers.proofs.row.entry.Statement.{statement}
 use Rattle.numbers.proofs.row.entry.Tie as tie
 
-returns : tie.Need-returns
+returns : tie.Need-returns-then-bytes-place
 returns c = let a = c.before.before.args in rw (big_past a.bytes.now (a.place + 4 * a.i) 4 (omega arith))
 
-returns-2 : tie.Need-returns-2
+returns-2 : tie.Need-returns-then-bytes-i
 returns-2 c = let a = c.before.before.before.args in rw (big_past a.bytes.now (a.place + 4 * a.i) 4 (omega arith))
 
 pub entry_spec : {M : Type 1} → statement M

@@ -10,19 +10,19 @@ use Rattle.numbers.proofs.signed.Halves.{upper_fits, upper-read}
 use Rattle.numbers.proofs.signed.signed_32.Statement.{statement}
 use Rattle.numbers.proofs.signed.signed_32.Tie as tie
 
-returns : tie.Need-returns
+returns : tie.Need-returns-then-bits-lt2147483648
 returns c =
-    let v = c.before.four_bytes.result in
-    rw (← c.before.four_bytes.ensures, to_z_pos w32 v (omega arith), lt-ltb v (2 ^ 31) (omega arith))
+    let v = c.before.four_bytes-bits.result in
+    rw (← c.before.four_bytes-bits.ensures, to_z_pos w32 v (omega arith), lt-ltb v (2 ^ 31) (omega arith))
 
-add_result : tie.Need-overflow-add-result
-add_result c = upper_fits w32 2147483647 c.before.four_bytes.result (omega arith) (omega arith) (omega arith)
+add_result : tie.Need-overflow_add-result
+add_result c = upper_fits w32 2147483647 c.before.four_bytes-bits.result (omega arith) (omega arith) (omega arith)
 
-returns-2 : tie.Need-returns-2
+returns-2 : tie.Need-returns
 returns-2 c =
-    let v = c.before.four_bytes.result in
+    let v = c.before.four_bytes-bits.result in
     rw (
-      ← c.before.four_bytes.ensures,
+      ← c.before.four_bytes-bits.ensures,
       upper-read w32 2147483647 v (omega arith) (omega arith) (omega arith),
       le-ltb v (2 ^ 31) (omega arith),
       lt-ltb v (2 ^ 32) (omega arith),

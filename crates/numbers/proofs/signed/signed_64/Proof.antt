@@ -10,19 +10,19 @@ use Rattle.numbers.proofs.signed.Halves.{upper_fits, upper-read}
 use Rattle.numbers.proofs.signed.signed_64.Statement.{statement}
 use Rattle.numbers.proofs.signed.signed_64.Tie as tie
 
-returns : tie.Need-returns
+returns : tie.Need-returns-then-bits-lt9223372036854775808
 returns c =
-    let v = c.before.eight-bytes.result in
-    rw (← c.before.eight-bytes.ensures, to_z_pos w64 v (omega arith), lt-ltb v (2 ^ 63) (omega arith))
+    let v = c.before.eight_bytes-bits.result in
+    rw (← c.before.eight_bytes-bits.ensures, to_z_pos w64 v (omega arith), lt-ltb v (2 ^ 63) (omega arith))
 
-add_result : tie.Need-overflow-add-result
-add_result c = upper_fits w64 9223372036854775807 c.before.eight-bytes.result (omega arith) (omega arith) (omega arith)
+add_result : tie.Need-overflow_add-result
+add_result c = upper_fits w64 9223372036854775807 c.before.eight_bytes-bits.result (omega arith) (omega arith) (omega arith)
 
-returns-2 : tie.Need-returns-2
+returns-2 : tie.Need-returns
 returns-2 c =
-    let v = c.before.eight-bytes.result in
+    let v = c.before.eight_bytes-bits.result in
     rw (
-      ← c.before.eight-bytes.ensures,
+      ← c.before.eight_bytes-bits.ensures,
       upper-read w64 9223372036854775807 v (omega arith) (omega arith) (omega arith),
       le-ltb v (2 ^ 63) (omega arith),
       lt-ltb v (2 ^ 64) (omega arith),

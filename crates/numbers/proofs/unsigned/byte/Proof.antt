@@ -7,7 +7,7 @@ use borrow.Author.Rules.{rules}
 use Rattle.numbers.proofs.unsigned.byte.Statement.{statement}
 use Rattle.numbers.proofs.unsigned.byte.Tie as tie
 
-returns : tie.Need-returns
+returns : tie.Need-returns-then-bytes-place
 returns c = let a = c.before.args in sym (get_or-eq_default a.bytes.now 0 {n = a.place} (omega arith))
 
 pub byte_spec : {M : Type 1} → statement M

@@ -8,10 +8,10 @@ use Rattle.numbers.proofs.unsigned.Parts.{big_split}
 use Rattle.numbers.proofs.unsigned.eight_bytes.Statement.{statement}
 use Rattle.numbers.proofs.unsigned.eight_bytes.Tie as tie
 
-returns : tie.Need-returns
+returns : tie.Need-returns-then-bytes-place
 returns c = let a = c.before.before.args in sym (big_past a.bytes.now a.place 8 (omega arith))
 
-returns-2 : tie.Need-returns-2
+returns-2 : tie.Need-returns
 returns-2 c = let a = c.before.before.before.before.args in omega (arith, big_split a.bytes.now a.place 4 4)
 
 pub eight_bytes_spec : {M : Type 1} → statement M

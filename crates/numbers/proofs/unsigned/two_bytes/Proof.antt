@@ -9,10 +9,10 @@ use Rattle.meaning.specs.File.{big}
 use Rattle.numbers.proofs.unsigned.two_bytes.Statement.{statement}
 use Rattle.numbers.proofs.unsigned.two_bytes.Tie as tie
 
-returns : tie.Need-returns
+returns : tie.Need-returns-then-bytes-place
 returns c = let a = c.before.before.args in sym (big_past a.bytes.now a.place 2 (omega arith))
 
-returns-2 : tie.Need-returns-2
+returns-2 : tie.Need-returns
 unfolding big
 returns-2 c = simp add-zero (omega arith)
 

@@ -52,7 +52,7 @@ module _ (c : tie.After-divide-second) where
   begun = start subtracted.before.before
 
   some : 0 < x begun
-  some = leb-false _ _ (sym (tested subtracted.before.before) ∙ subtracted.if-at_most.left)
+  some = leb-false _ _ (sym (tested subtracted.before.before) ∙ subtracted.if-at_most.false)
 
   less : value subtracted.subtract-less.result ≡ x begun - 1
   less =

@@ -17,42 +17,42 @@ use borrow.Author.Rules.{rules}
 use Rattle.design.proofs.addition.back.Statement.{statement}
 use Rattle.design.proofs.addition.back.Tie as tie
 
-abbrev invariant-loop : tie.invariant-loop
+abbrev invariant-loop : tie.invariant-loop-shift
 invariant-loop head card x n shift₀ shift = (shift ≤ head.n) × (back head x ≡ first_from (λ s. eqb (plus head x s) 0) shift (head.n - shift))
 
-abbrev decreases-loop : tie.decreases-loop
+abbrev decreases-loop : tie.decreases-loop-shift
 decreases-loop head card x n shift₀ shift = head.n - shift
 
-returns : tie.Need-returns invariant-loop decreases-loop
+returns : tie.Need-returns-then-not-by_field invariant-loop decreases-loop
 returns c =
     let s = c.before.before in
-    search (back_residue s.args.head (plus_group s.args.head s.requires.0.has_addition_lem) (sym c.before.by_field.ensures ∙ not-true _ c.if1.true)
+    search (back_residue s.args.head (plus_group s.args.head s.requires.0.has_addition_lem) (sym c.by_field.ensures ∙ not-true _ c.if-not-by_field.true-raw)
     s.args.x s.requires.1)
 
-loop-holds : tie.Need-loop-init invariant-loop decreases-loop
+loop-holds : tie.Need-loop-shift-init invariant-loop decreases-loop
 unfolding back
 loop-holds c = (omega arith, rw sub-zero)
 
 plus_requires : tie.Need-plus-requires invariant-loop decreases-loop
-plus_requires c κs = let s = c.before.before.before.before in (s.requires.0, s.requires.1, c.loop-test.true, s.requires.2)
+plus_requires c κs = let s = c.before.before.before.before in (s.requires.0, s.requires.1, c.loop-shift-test.true, s.requires.2)
 
-returns-2 : tie.Need-returns-2 invariant-loop decreases-loop
+returns-2 : tie.Need-returns-then-plus-eq0 invariant-loop decreases-loop
 returns-2 c =
-    let l = c.before.before.before.loop in
-    let a = c.before.before.before.before.before.before.args in
-    let here : eqb (plus a.head a.x l.shift) 0 ≡ true = eq-eqb _ 0 (sym c.before.plus.ensures ∙ c.if2.true) in
-    search (sym (l.invariant.1 ∙ first-here _ _ l.shift c.before.before.loop-test.true here))
+    let l = c.loop-shift in
+    let a = c.args in
+    let here : eqb (plus a.head a.x l.shift) 0 ≡ true = eq-eqb _ 0 (sym c.plus.ensures ∙ c.if-plus-eq0.true) in
+    search (sym (l.invariant.1 ∙ first-here _ _ l.shift c.loop-shift-test.true here))
 
-loop-again : tie.Need-loop-preserved invariant-loop decreases-loop
+loop-again : tie.Need-loop-shift-preserved invariant-loop decreases-loop
 loop-again c =
-    let l = c.before.before.before.loop in
-    (omega arith, l.invariant.1 ∙ first_on _ _ l.shift c.before.before.loop-test.true (ne_eqb _ 0 (λ z. c.if2.false (c.before.plus.ensures ∙ z))))
+    let l = c.loop-shift in
+    (omega arith, l.invariant.1 ∙ first_on _ _ l.shift c.loop-shift-test.true (ne_eqb _ 0 (λ z. c.if-plus-eq0.false (c.plus.ensures ∙ z))))
 
-returns-3 : tie.Need-returns-3 invariant-loop decreases-loop
+returns-3 : tie.Need-returns invariant-loop decreases-loop
 unfolding first_from
 returns-3 c =
-    let l = c.before.loop in
-    let none : c.before.before.before.before.args.head.n - l.shift ≡ 0 = omega arith in
+    let l = c.loop-shift in
+    let none : c.args.head.n - l.shift ≡ 0 = omega arith in
     sym (rw none at l.invariant.1)
 
 pub back_spec : {M : Type 1} → statement M

@@ -9,45 +9,45 @@ use borrow.Author.Rules.{rules}
 use Rattle.design.proofs.addition.card_of.Statement.{statement}
 use Rattle.design.proofs.addition.card_of.Tie as tie
 
-returns : tie.Need-returns
-returns c t = absurd (false≢true (sym (sym c.before.by_field.ensures ∙ not-true _ c.if1.true) ∙ t))
+returns : tie.Need-returns-then-not-by_field
+returns c t = absurd (false≢true (sym (sym c.by_field.ensures ∙ not-true _ c.if-not-by_field.true-raw) ∙ t))
 
-returns-2 : tie.Need-returns-2
+returns-2 : tie.Need-returns-then-n-eq8
 unfolding field_prime digit_sum
-returns-2 c t x s l m = rw (laid-sums c.before.before.before.before.before.args.head 8 x s (omega arith) c.before.before.if2.true t l m c.laid.ensures)
+returns-2 c t x s l m = rw (laid-sums c.args.head 8 x s (omega arith) c.if-n-eq8.true t l m c.laid.ensures)
 
-returns-3 : tie.Need-returns-3
+returns-3 : tie.Need-returns-then-n-eq9
 unfolding field_prime digit_sum
-returns-3 c t x s l m = rw (laid-sums c.before.before.before.before.before.before.args.head 9 x s (omega arith) c.before.before.if3.true t l m c.laid2.ensures)
+returns-3 c t x s l m = rw (laid-sums c.args.head 9 x s (omega arith) c.if-n-eq9.true t l m c.laid-then-n-eq9.ensures)
 
-returns-4 : tie.Need-returns-4
+returns-4 : tie.Need-returns-then-n-eq16
 unfolding field_prime digit_sum
-returns-4 c t x s l m = rw (laid-sums c.before.before.before.before.before.before.before.args.head 16 x s (omega arith) c.before.before.if4.true t l m c.laid3.ensures)
+returns-4 c t x s l m = rw (laid-sums c.args.head 16 x s (omega arith) c.if-n-eq16.true t l m c.laid-then-n-eq16.ensures)
 
-returns-5 : tie.Need-returns-5
+returns-5 : tie.Need-returns-then-n-eq25
 unfolding field_prime digit_sum
-returns-5 c t x s l m = rw (laid-sums c.before.before.before.before.before.before.before.before.args.head 25 x s (omega arith) c.before.before.if5.true t l m c.laid4.ensures)
+returns-5 c t x s l m = rw (laid-sums c.args.head 25 x s (omega arith) c.if-n-eq25.true t l m c.laid-then-n-eq25.ensures)
 
-returns-6 : tie.Need-returns-6
+returns-6 : tie.Need-returns-then-n-eq27
 unfolding field_prime digit_sum
-returns-6 c t x s l m = rw (laid-sums c.before.before.before.before.before.before.before.before.before.args.head 27 x s (omega arith) c.before.before.if6.true t l m c.laid5.ensures)
+returns-6 c t x s l m = rw (laid-sums c.args.head 27 x s (omega arith) c.if-n-eq27.true t l m c.laid-then-n-eq27.ensures)
 
-returns-7 : tie.Need-returns-7
+returns-7 : tie.Need-returns-then-n-eq32
 unfolding field_prime digit_sum
-returns-7 c t x s l m = rw (laid-sums c.before.before.before.before.before.before.before.before.before.before.args.head 32 x s (omega arith) c.before.before.if7.true t l m c.laid6.ensures)
+returns-7 c t x s l m = rw (laid-sums c.args.head 32 x s (omega arith) c.if-n-eq32.true t l m c.laid-then-n-eq32.ensures)
 
 -- past all tests it is the last field
-last : (c : tie.Else7) → c.before.before.before.before.before.before.before.before.args.head.n ≡ 49
+last : (c : tie.Else-n-eq32) → c.args.head.n ≡ 49
 last c =
     let s = c.before.before.before.before.before.before.before.before in
-    let field = sym c.before.before.before.before.before.before.before.by_field.ensures
-    ∙ not-false _ c.before.before.before.before.before.before.if1.false in
-    last-field _ (field_there s.args.head s.requires field) c.before.before.before.before.before.if2.false c.before.before.before.before.if3.false
-    c.before.before.before.if4.false c.before.before.if5.false c.before.if6.false c.if7.false
+    let field = sym c.by_field.ensures
+    ∙ not-false _ c.if-not-by_field.false-raw in
+    last-field _ (field_there s.args.head s.requires field) c.if-n-eq8.false c.if-n-eq9.false
+    c.if-n-eq16.false c.if-n-eq25.false c.if-n-eq27.false c.if-n-eq32.false
 
-returns-8 : tie.Need-returns-8
+returns-8 : tie.Need-returns
 unfolding field_prime digit_sum
-returns-8 c t x s l m = rw (card-sums c.before.before.before.before.before.before.before.before.args.head 49 x s (last c) t l m _)
+returns-8 c t x s l m = rw (card-sums c.args.head 49 x s (last c) t l m _)
 
 pub card_of_spec : {M : Type 1} → statement M
 card_of_spec =

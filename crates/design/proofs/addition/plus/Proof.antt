@@ -9,24 +9,24 @@ use Rattle.design.proofs.addition.plus.Statement.{statement}
 use Rattle.design.proofs.addition.plus.Tie as tie
 
 -- the sum's place on the card
-place : (c : tie.Then1) → c.before.before.args.x * c.before.before.args.head.n + c.before.before.args.shift < 2401
+place : (c : tie.Then-by_field) → c.args.x * c.args.head.n + c.args.shift < 2401
 place c = let s = c.before.before in
-    place-most s.args.head s.args.x s.args.shift s.requires.0 (sym c.before.by_field.ensures ∙ c.if1.true) s.requires.1 s.requires.2
+    place-most s.args.head s.args.x s.args.shift s.requires.0 (sym c.by_field.ensures ∙ c.if-by_field.true) s.requires.1 s.requires.2
 
-mul_at : tie.Need-overflow-mul-at
+mul_at : tie.Need-overflow_mul-at
 mul_at c = omega (arith, place c)
 
-add_at : tie.Need-overflow-add-at
+add_at : tie.Need-overflow_add-at
 add_at c = omega (arith, place c)
 
-returns : tie.Need-returns
+returns : tie.Need-returns-then-by_field
 returns c =
     let s = c.before.before.before.before in
-    c.wide.ensures ∙ s.requires.3 (sym c.before.before.before.by_field.ensures ∙ c.before.before.if1.true) s.args.x s.args.shift s.requires.1 s.requires.2
+    c.wide.ensures ∙ s.requires.3 (sym c.by_field.ensures ∙ c.if-by_field.true) s.args.x s.args.shift s.requires.1 s.requires.2
 
-returns-2 : tie.Need-returns-2
+returns-2 : tie.Need-returns-else-by_field
 unfolding plus
-returns-2 c = rw (sym c.before.by_field.ensures ∙ c.if1.false)
+returns-2 c = rw (sym c.by_field.ensures ∙ c.if-by_field.false)
 
 pub plus_spec : {M : Type 1} → statement M
 plus_spec =

@@ -7,17 +7,17 @@ use borrow.Author.Rules.{rules}
 use Rattle.design.proofs.blocks.offends.Statement.{statement}
 use Rattle.design.proofs.blocks.offends.Tie as tie
 
-sub_start : tie.Need-overflow-sub-start
-sub_start c = let a = c.before.before.before.before.args in omega (arith, mod-le a.i (2 * a.head.p))
+sub_start : tie.Need-overflow_sub-start
+sub_start c = let a = c.args in omega (arith, mod-le a.i (2 * a.head.p))
 
-returns : tie.Need-returns
+returns : tie.Need-returns-then-in_range
 returns c =
-    let a = c.before.before.before.before.before.before.args in
+    let a = c.args in
     let back : a.i - (a.i - a.i % (2 * a.head.p)) ≡ a.i % (2 * a.head.p) = omega (arith, mod-le a.i (2 * a.head.p)) in
-    rw (sym c.before.before.before.in_range_lem.ensures ∙ c.before.before.if1.true) (rw back at c.stands-among.ensures)
+    rw (sym c.before.before.before.in_range_lem.ensures ∙ c.if-in_range.true) (rw back at c.stands_among.ensures)
 
-returns-2 : tie.Need-returns-2
-returns-2 c = rw (sym c.before.in_range_lem.ensures ∙ c.if1.false)
+returns-2 : tie.Need-returns-else-in_range
+returns-2 c = rw (sym c.before.in_range_lem.ensures ∙ c.if-in_range.false)
 
 pub offends_spec : {M : Type 1} → statement M
 offends_spec =

@@ -10,31 +10,31 @@ use borrow.Author.Rules.{rules}
 use Rattle.design.proofs.blocks.stands_among.Statement.{statement}
 use Rattle.design.proofs.blocks.stands_among.Tie as tie
 
-abbrev invariant-loop : tie.invariant-loop
+abbrev invariant-loop : tie.invariant-loop-k
 invariant-loop bytes byte k₀ k-end k = (k ≤ length bytes) × (k-end ≡ length bytes) × (occ byte bytes ≡ occ byte (drop k bytes))
 
-abbrev decreases-loop : tie.decreases-loop
+abbrev decreases-loop : tie.decreases-loop-k
 decreases-loop bytes byte k₀ k-end k = k-end - k
 
-loop-holds : tie.Need-loop-init invariant-loop decreases-loop
+loop-holds : tie.Need-loop-k-init invariant-loop decreases-loop
 loop-holds c = (search rules, search rules, refl)
 
-returns : tie.Need-returns invariant-loop decreases-loop
+returns : tie.Need-returns-then-bytes-k invariant-loop decreases-loop
 returns c =
-    let l = c.before.before.before.loop in
-    let more : l.k < length c.before.before.before.before.args.bytes.now = omega arith in
-    sym (ap (ltb 0) l.invariant.2 ∙ among-here _ _ l.k more c.if1.true)
+    let l = c.loop-k in
+    let more : l.k < length c.args.bytes.now = omega arith in
+    sym (ap (ltb 0) l.invariant.2 ∙ among-here _ _ l.k more c.if-bytes-k.true)
 
-loop-again : tie.Need-loop-preserved invariant-loop decreases-loop
+loop-again : tie.Need-loop-k-preserved invariant-loop decreases-loop
 loop-again c =
-    let l = c.before.before.before.loop in
-    let more : l.k < length c.before.before.before.before.args.bytes.now = omega arith in
-    (search rules, search rules, l.invariant.2 ∙ among_later _ _ l.k more c.if1.false)
+    let l = c.loop-k in
+    let more : l.k < length c.args.bytes.now = omega arith in
+    (search rules, search rules, l.invariant.2 ∙ among_later _ _ l.k more c.if-bytes-k.false)
 
-returns-2 : tie.Need-returns-2 invariant-loop decreases-loop
+returns-2 : tie.Need-returns invariant-loop decreases-loop
 returns-2 c =
-    let l = c.before.loop in
-    let all : l.k ≡ length c.before.before.args.bytes.now = omega arith in
+    let l = c.loop-k in
+    let all : l.k ≡ length c.args.bytes.now = omega arith in
     sym (ap (ltb 0) (l.invariant.2 ∙ among_none _ _ l.k all))
 
 pub stands_among_spec : {M : Type 1} → statement M

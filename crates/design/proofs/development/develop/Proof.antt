@@ -12,38 +12,38 @@ use Rattle.design.proofs.development.develop.Statement.{statement}
 use Rattle.design.proofs.development.develop.Tie as tie
 
 -- past the shared tests, the design is sound
-passed : (c : tie.Else1) → design_verdict c.before.before.before.before.before.args.head
-    c.before.before.before.before.before.args.blocks.now ≡ Accepted
-passed c = sym c.before.before.pairs-refusal.ensures ∙ accepting _ (sym c.before.is-refused.ensures ∙ c.if1.false)
+passed : (c : tie.Else-is_refused) → design_verdict c.args.head
+    c.args.blocks.now ≡ Accepted
+passed c = sym c.pairs_refusal-listed.ensures ∙ accepting _ (sym c.is_refused.ensures ∙ c.if-is_refused.false)
 
-returns : tie.Need-returns
+returns : tie.Need-returns-then-is_refused
 unfolding develop_verdict
 returns c =
-    let r = refusing _ (sym c.before.is-refused.ensures ∙ c.if1.true) in
-    let e = sym c.before.before.pairs-refusal.ensures ∙ r in
+    let r = refusing _ (sym c.is_refused.ensures ∙ c.if-is_refused.true) in
+    let e = sym c.pairs_refusal-listed.ensures ∙ r in
     rw e (r, search rules)
 
-mul_if2 : tie.Need-overflow-mul-if2
+mul_if2 : tie.Need-overflow_mul-m
 mul_if2 c = let f = (sound _ _ (passed c)).sizes in omega arith
 
-mul_if2_2 : tie.Need-overflow-mul-if2-2
+mul_if2_2 : tie.Need-overflow_mul-m-2
 mul_if2_2 c = let f = (sound _ _ (passed c)).sizes in omega arith
 
-write_words_requires : tie.Need-write-words-requires
+write_words_requires : tie.Need-write_words-requires
 write_words_requires c κs = (passed c.before.before, search rules)
 
-returns-2 : tie.Need-returns-2
+returns-2 : tie.Need-returns-then-m-n
 unfolding develop_verdict
 returns-2 c =
     let e = passed c.before.before.before.before.before in
-    let r = le-leb _ _ c.before.before.before.before.if2.true in
+    let r = le-leb _ _ c.if-m-n.true in
     (rw (e, r) (search rules), rw (e, r) (search rules))
 
-returns-3 : tie.Need-returns-3
+returns-3 : tie.Need-returns
 unfolding develop_verdict
 returns-3 c =
     let e = passed c.before in
-    let r = lt-leb _ _ c.if2.false in
+    let r = lt-leb _ _ c.if-m-n.false in
     (rw (e, r) (search rules), rw (e, r) (search rules))
 
 pub develop_spec : {M : Type 1} → statement M

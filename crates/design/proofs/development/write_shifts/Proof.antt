@@ -13,11 +13,11 @@ use borrow.Author.Rules.{rules}
 use Rattle.design.proofs.development.write_shifts.Statement.{statement}
 use Rattle.design.proofs.development.write_shifts.Tie as tie
 
-abbrev invariant-loop : tie.invariant-loop
+abbrev invariant-loop : tie.invariant-loop-shift
 invariant-loop head card j blocks part₀ n p left right end shift₀ part shift =
     (shift ≤ head.n) × (length part ≡ length part₀) × (part ≡ over (2 * shift) (λ c. word_at head blocks (2 * head.n * j + c)) part₀)
 
-abbrev decreases-loop : tie.decreases-loop
+abbrev decreases-loop : tie.decreases-loop-shift
 decreases-loop head card j blocks part₀ n p left right end shift₀ part shift = head.n - shift
 
 -- block j lies within the bytes
@@ -25,25 +25,25 @@ inside : (c : tie.Start invariant-loop decreases-loop) →
     (2 * c.args.head.p * c.args.j + 2 * c.args.head.p ≤ 2 * c.args.head.p * c.args.head.m) × (2 * c.args.head.p * c.args.head.m ≤ 3200)
 inside c = (part_in _ _ _ c.requires.1, listed-most _ (sound _ _ c.requires.0).sizes)
 
-mul_left : tie.Need-overflow-mul-left invariant-loop decreases-loop
-mul_left c = let f = (sound _ _ c.before.before.requires.0).sizes in omega arith
+mul_left : tie.Need-overflow_mul-left invariant-loop decreases-loop
+mul_left c = let f = (sound _ _ c.requires.0).sizes in omega arith
 
-mul_left_2 : tie.Need-overflow-mul-left-2 invariant-loop decreases-loop
+mul_left_2 : tie.Need-overflow_mul-left-2 invariant-loop decreases-loop
 mul_left_2 c = omega (arith, (inside c.before.before).0, (inside c.before.before).1)
 
-add_right : tie.Need-overflow-add-right invariant-loop decreases-loop
+add_right : tie.Need-overflow_add-right invariant-loop decreases-loop
 add_right c = omega (arith, (inside c.before.before).0, (inside c.before.before).1)
 
-add_end : tie.Need-overflow-add-end invariant-loop decreases-loop
+add_end : tie.Need-overflow_add-end invariant-loop decreases-loop
 add_end c = omega (arith, (inside c.before.before).0, (inside c.before.before).1)
 
-loop-holds : tie.Need-loop-init invariant-loop decreases-loop
+loop-holds : tie.Need-loop-shift-init invariant-loop decreases-loop
 loop-holds c = (search rules, search rules, over_none _ _)
 
-part_side_word_end : tie.Need-slice-bounds-side-word-end invariant-loop decreases-loop
-part_side_word_end c = omega (arith, (inside c.before.before.before.before).0, (sound _ _ c.before.before.before.before.requires.0).long)
+part_side_word_end : tie.Need-slice_bounds-side_word-end invariant-loop decreases-loop
+part_side_word_end c = omega (arith, (inside c.before.before.before.before).0, (sound _ _ c.requires.0).long)
 
-side_word_requires : tie.Need-side-word-requires invariant-loop decreases-loop
+side_word_requires : tie.Need-side_word-requires invariant-loop decreases-loop
 side_word_requires c κs =
     let s = c.before.before.before.before.before in
     let d = sound _ _ s.requires.0 in
@@ -52,10 +52,10 @@ side_word_requires c κs =
     let range = part_range s.args.head s.args.blocks.now d first (first + s.args.head.p - first) in_list in
     (d.sizes, search rules, simp length-take (omega (arith, d.sizes)), range, s.requires.3)
 
-part_side_word_end_2 : tie.Need-slice-bounds-side-word-end-2 invariant-loop decreases-loop
+part_side_word_end_2 : tie.Need-slice_bounds-side_word-end-in-loop-shift invariant-loop decreases-loop
 part_side_word_end_2 c = let s = c.before.before.before.before.before.before in omega (arith, (inside s).0, (sound _ _ s.requires.0).long)
 
-side_word_requires_2 : tie.Need-side-word-requires-2 invariant-loop decreases-loop
+side_word_requires_2 : tie.Need-side_word-requires-in-loop-shift invariant-loop decreases-loop
 side_word_requires_2 c κs =
     let s = c.before.before.before.before.before.before.before in
     let d = sound _ _ s.requires.0 in
@@ -64,26 +64,26 @@ side_word_requires_2 c κs =
     let range = part_range s.args.head s.args.blocks.now d first (first + s.args.head.p - first) in_list in
     (d.sizes, search rules, simp length-take (omega (arith, d.sizes)), range, s.requires.3)
 
-slice_write_part_2 : tie.Need-slice-write-part-2 invariant-loop decreases-loop
+slice_write_part_2 : tie.Need-bounds-part-shift-in-loop-shift invariant-loop decreases-loop
 slice_write_part_2 c = simp length-set (omega arith)
 
-loop-again : tie.Need-loop-preserved invariant-loop decreases-loop
+loop-again : tie.Need-loop-shift-preserved invariant-loop decreases-loop
 loop-again c =
-    let l = c.before.before.before.before.before.loop in
-    let a = c.before.before.before.before.before.before.before.before.args in
+    let l = c.loop-shift in
+    let a = c.args in
     let below : l.shift < a.head.n = omega arith in
     let f : ℕ → ℕ = λ k. word_at a.head a.blocks.now (2 * a.head.n * a.j + k) in
     let one = over-step (2 * l.shift) f a.part.now l.invariant.2
-    (c.before.before.side-word.ensures ∙ left-lent a.head a.blocks.now a.j l.shift below) (omega arith) in
+    (c.side_word.ensures ∙ left-lent a.head a.blocks.now a.j l.shift below) (omega arith) in
     let two = over-step (2 * l.shift + 1) f a.part.now one
-    (c.side-word2.ensures ∙ right-lent a.head a.blocks.now a.j l.shift below) (omega arith) in
+    (c.side_word-in-loop-shift.ensures ∙ right-lent a.head a.blocks.now a.j l.shift below) (omega arith) in
     let e : 2 * l.shift + 1 + 1 ≡ 2 * (l.shift + 1) = omega arith in
     (search rules, simp length-set l.invariant.1, over-end f a.part.now two e)
 
 returns : tie.Need-returns invariant-loop decreases-loop
 returns c =
-    let e : 2 * c.before.loop.shift ≡ 2 * c.before.before.before.before.args.head.n = omega arith in
-    over-end _ _ c.before.loop.invariant.2 e
+    let e : 2 * c.loop-shift.shift ≡ 2 * c.args.head.n = omega arith in
+    over-end _ _ c.loop-shift.invariant.2 e
 
 pub write_shifts_spec : {M : Type 1} → statement M
 write_shifts_spec =

@@ -14,61 +14,61 @@ use borrow.Author.Rules.{rules}
 use Rattle.design.proofs.development.write_words.Statement.{statement}
 use Rattle.design.proofs.development.write_words.Tie as tie
 
-abbrev invariant-loop : tie.invariant-loop
+abbrev invariant-loop : tie.invariant-loop-j
 invariant-loop head blocks words₀ n m card j₀ words j = (j ≤ head.m) × (length words ≡ length words₀) × (words ≡ over (2 * head.n * j) (word_at head blocks) words₀)
 
-abbrev decreases-loop : tie.decreases-loop
+abbrev decreases-loop : tie.decreases-loop-j
 decreases-loop head blocks words₀ n m card j₀ words j = head.m - j
 
-abbrev start : tie.In-loop invariant-loop decreases-loop → tie.Start invariant-loop decreases-loop
+abbrev start : tie.In-loop-j invariant-loop decreases-loop → tie.Start invariant-loop decreases-loop
 start c = c.before.before.before.before.before
 
 -- part j lies within the words
-inside : (c : tie.In-loop invariant-loop decreases-loop)
-    → (2 * (start c).args.head.n * c.before.loop.j + 2 * (start c).args.head.n ≤ 2 * (start c).args.head.n * (start c).args.head.m)
+inside : (c : tie.In-loop-j invariant-loop decreases-loop)
+    → (2 * (start c).args.head.n * c.loop-j.j + 2 * (start c).args.head.n ≤ 2 * (start c).args.head.n * (start c).args.head.m)
     × (2 * (start c).args.head.n * (start c).args.head.m ≡ 2 *
     ((start c).args.head.m * (start c).args.head.n))
-inside c = (part_in _ _ _ c.loop-test.true, twice _ _)
+inside c = (part_in _ _ _ c.loop-j-test.true, twice _ _)
 
-loop-holds : tie.Need-loop-init invariant-loop decreases-loop
+loop-holds : tie.Need-loop-j-init invariant-loop decreases-loop
 loop-holds c = (search rules, search rules, rw mul-zero (over_none _ _))
 
-mul_start : tie.Need-overflow-mul-start invariant-loop decreases-loop
+mul_start : tie.Need-overflow_mul-start invariant-loop decreases-loop
 mul_start c = let f = (sound _ _ (start c).requires.0).sizes in omega arith
 
-mul_start_2 : tie.Need-overflow-mul-start-2 invariant-loop decreases-loop
+mul_start_2 : tie.Need-overflow_mul-start-in-loop-j invariant-loop decreases-loop
 mul_start_2 c = omega (arith, (inside c).0, (inside c).1)
 
-mul_write_shifts : tie.Need-overflow-mul-write-shifts invariant-loop decreases-loop
+mul_write_shifts : tie.Need-offset_bounds-words-start invariant-loop decreases-loop
 mul_write_shifts c = omega (arith, (inside c.before).0, (inside c.before).1)
 
-sub_write_shifts : tie.Need-overflow-sub-write-shifts invariant-loop decreases-loop
+sub_write_shifts : tie.Need-slice_bounds-write_shifts-count invariant-loop decreases-loop
 sub_write_shifts c = omega (arith, (inside c.before).0, (inside c.before).1)
 
-part_write_shifts_start : tie.Need-slice-bounds-write-shifts-start invariant-loop decreases-loop
+part_write_shifts_start : tie.Need-slice_bounds-write_shifts-start invariant-loop decreases-loop
 part_write_shifts_start c = omega (arith, (inside c.before).0, (inside c.before).1)
 
-write_shifts_requires : tie.Need-write-shifts-requires invariant-loop decreases-loop
+write_shifts_requires : tie.Need-write_shifts-requires invariant-loop decreases-loop
 write_shifts_requires c κs = (
   search rules,
   search rules,
   simp (length-take, length-drop) (omega (arith, (inside c.before.before).0, (inside c.before.before).1)),
-  c.before.before.before.before.card-of.ensures,
+  c.card_of-card.ensures,
 )
 
-loop-again : tie.Need-loop-preserved invariant-loop decreases-loop
+loop-again : tie.Need-loop-j-preserved invariant-loop decreases-loop
 loop-again c =
-    let l = c.before.before.before.before.before.before.loop in
-    let a = c.before.before.before.before.before.before.before.before.before.before.args in
-    let back = over-lent (2 * a.head.n * l.j) (2 * a.head.n) _ (word_at a.head a.blocks.now) a.words.now l.invariant.2
-    c.before.before.write-shifts.ensures (λ i h. refl) in
-    (search rules, c.before.words.given.1 ∙ l.invariant.1, over-end _ _ back (part-next (2 * a.head.n) l.j))
+    let l = c.loop-j in
+    let a = c.args in
+    let back = over-lent (2 * a.head.n * l.j) (2 * a.head.n) _ (word_at a.head a.blocks.now) a.words-1.now l.invariant.2
+    c.write_shifts.ensures (λ i h. refl) in
+    (search rules, c.words-1.given.1 ∙ l.invariant.1, over-end _ _ back (part-next (2 * a.head.n) l.j))
 
 returns : tie.Need-returns invariant-loop decreases-loop
 returns c =
-    let a = c.before.before.before.before.before.args in
-    let e : c.before.loop.j ≡ a.head.m = omega arith in
-    over-end _ _ c.before.loop.invariant.2 (ap (λ (k : ℕ). 2 * a.head.n * k) e ∙ twice _ _)
+    let a = c.args in
+    let e : c.loop-j.j ≡ a.head.m = omega arith in
+    over-end _ _ c.loop-j.invariant.2 (ap (λ (k : ℕ). 2 * a.head.n * k) e ∙ twice _ _)
 
 pub write_words_spec : {M : Type 1} → statement M
 write_words_spec =
@@ -76,7 +76,7 @@ write_words_spec =
     (tie.spec
     invariant-loop
     decreases-loop
-    (λ c κs. (sound _ _ c.before.before.requires.0).sizes)
+    (λ c κs. (sound _ _ c.requires.0).sizes)
     loop-holds
     mul_start
     mul_start_2

@@ -13,69 +13,69 @@ use borrow.Author.Rules.{rules}
 use Rattle.design.proofs.differences.add_side.Statement.{statement}
 use Rattle.design.proofs.differences.add_side.Tie as tie
 
-abbrev invariant-loop : tie.invariant-loop
+abbrev invariant-loop : tie.invariant-loop-k
 invariant-loop head card shift side counts₀ k₀ k-end counts k =
     (k ≤ length side) × (k-end ≡ length side) × More (λ e. occ e (map (moved head shift) (take k side))) counts₀ counts
 
-abbrev decreases-loop : tie.decreases-loop
+abbrev decreases-loop : tie.decreases-loop-k
 decreases-loop head card shift side counts₀ k₀ k-end counts k = k-end - k
 
-loop-holds : tie.Need-loop-init invariant-loop decreases-loop
+loop-holds : tie.Need-loop-k-init invariant-loop decreases-loop
 unfolding occ
 loop-holds c = (search rules, search rules, record { long = refl; each = λ e m. omega arith })
 
-object_of_requires : tie.Need-object-of-requires invariant-loop decreases-loop
+object_of_requires : tie.Need-object_of-object-requires invariant-loop decreases-loop
 object_of_requires c κs =
     let s = c.before.before.before.before.before in
-    let more : c.before.before.loop.k < length s.args.side.now = omega arith in
-    (s.requires.0, s.requires.2, s.requires.3.ranged c.before.before.loop.k more, s.requires.1)
+    let more : c.loop-k.k < length s.args.side.now = omega arith in
+    (s.requires.0, s.requires.2, s.requires.3.ranged c.loop-k.k more, s.requires.1)
 
 -- the object is one of 50
-object : (c : tie.After-object-of invariant-loop decreases-loop) → c.object_of.result < 50
+object : (c : tie.After-object_of-object invariant-loop decreases-loop) → c.object_of-object.result < 50
 object c =
     let s = c.before.before.before.before.before.before in
-    let k = c.before.before.before.loop.k in
+    let k = c.loop-k.k in
     let more : k < length s.args.side.now = omega arith in
     let below = moved_range s.args.head s.args.shift s.requires.0.has_addition_lem s.requires.2 (get_or s.args.side.now k 0) (s.requires.3.ranged k more) in
-    omega (arith, c.object_of.ensures, below, s.requires.0.objects-most)
+    omega (arith, c.object_of-object.ensures, below, s.requires.0.objects-most)
 
 -- the row has 50 entries
-long : (c : tie.After-object-of invariant-loop decreases-loop) → length c.before.before.before.loop.counts ≡ 50
-long c = c.before.before.before.loop.invariant.2.long ∙ c.before.before.before.before.before.before.requires.4.long
+long : (c : tie.After-object_of-object invariant-loop decreases-loop) → length c.loop-k.counts ≡ 50
+long c = c.loop-k.invariant.2.long ∙ c.requires.4.long
 
 -- where the row is read
-abbrev known : tie.After-slice-known2 invariant-loop decreases-loop → tie.After-object-of invariant-loop decreases-loop
+abbrev known : tie.After-slice_known-in-loop-k-1 invariant-loop decreases-loop → tie.After-object_of-object invariant-loop decreases-loop
 known c = c.before
 
-add_counts : tie.Need-overflow-add-counts invariant-loop decreases-loop
+add_counts : tie.Need-overflow_add-counts invariant-loop decreases-loop
 add_counts c =
     let s = (known c).before.before.before.before.before.before in
-    let l = (known c).before.before.before.loop in
-    let e = (known c).object_of.result in
+    let l = (known c).loop-k in
+    let e = (known c).object_of-object.result in
     let m = object (known c) in
     omega (
       arith,
-      l.inv.2.each e m,
-      s.pre.4.most e m,
-      part-most (moved s.args.head s.args.shift) e s.args.side.now l.k s.pre.3.few l.inv.0,
+      l.invariant.2.each e m,
+      s.requires.4.most e m,
+      part-most (moved s.args.head s.args.shift) e s.args.side.now l.k s.requires.3.few l.invariant.0,
     )
 
-loop-again : tie.Need-loop-preserved invariant-loop decreases-loop
+loop-again : tie.Need-loop-k-preserved invariant-loop decreases-loop
 loop-again c =
     let s = (known c).before.before.before.before.before.before in
-    let l = (known c).before.before.before.loop in
+    let l = (known c).loop-k in
     let more : l.k < length s.args.side.now = omega arith in (
       search rules,
       search rules,
       search
-          (counted_next (moved s.args.head s.args.shift) s.args.side.now l.k (known c).object_of.result l.counts s.args.counts.now more
-          (known c).object_of.ensures (omega (arith, object (known c), l.inv.2.long, s.pre.4.long)) l.inv.2),
+          (counted_next (moved s.args.head s.args.shift) s.args.side.now l.k (known c).object_of-object.result l.counts s.args.counts.now more
+          (known c).object_of-object.ensures (omega (arith, object (known c), l.invariant.2.long, s.requires.4.long)) l.invariant.2),
     )
 
 returns : tie.Need-returns invariant-loop decreases-loop
 returns c =
-    let a = c.before.before.before.before.args in
-    let l = c.before.loop in
+    let a = c.args in
+    let l = c.loop-k in
     let whole : take l.k a.side.now ≡ a.side.now = take_all l.k a.side.now (omega arith) in
     search (subst (λ (xs : List ℕ). More (λ e. occ e (map (moved a.head a.shift) xs)) a.counts.now l.counts) whole l.invariant.2)
 
@@ -95,5 +95,5 @@ add_side_spec =
     (λ c. search rules)
     (λ c. search rules)
     loop-again
-    (λ c. c.before.loop.invariant.2.long)
+    (λ c. c.loop-k.invariant.2.long)
     returns)

@@ -47,25 +47,25 @@ right s =
     let d = s.args.blocks.now in
     subst (Side h) (sym (part_same (2 * h.p * s.args.j + h.p) h.p d)) (right_side h d (sound _ _ s.requires.0) s.args.j s.requires.2)
 
-mul_left : tie.Need-overflow-mul-left
-mul_left c = let f = (sound _ _ c.before.before.before.requires.0).sizes in omega arith
+mul_left : tie.Need-overflow_mul-left
+mul_left c = let f = (sound _ _ c.requires.0).sizes in omega arith
 
-mul_left_2 : tie.Need-overflow-mul-left-2
+mul_left_2 : tie.Need-overflow_mul-left-2
 mul_left_2 c = omega (arith, (inside c.before.before.before).0, (inside c.before.before.before).1)
 
-add_right : tie.Need-overflow-add-right
+add_right : tie.Need-overflow_add-right
 add_right c = omega (arith, (inside c.before.before.before).0, (inside c.before.before.before).1)
 
-add_end : tie.Need-overflow-add-end
+add_end : tie.Need-overflow_add-end
 add_end c = omega (arith, (inside c.before.before.before).0, (inside c.before.before.before).1)
 
-part_on_left_end : tie.Need-slice-bounds-on-left-end
+part_on_left_end : tie.Need-slice_bounds-on_left-end
 part_on_left_end c = let s = c.before.before.before in omega (arith, (inside s).0, (sound _ _ s.requires.0).long)
 
-part_on_right_end : tie.Need-slice-bounds-on-right-end
+part_on_right_end : tie.Need-slice_bounds-on_right-end
 part_on_right_end c = let s = c.before.before.before.before in omega (arith, (inside s).0, (sound _ _ s.requires.0).long)
 
-count_from_requires : tie.Need-count-from-requires
+count_from_requires : tie.Need-count_from-requires
 count_from_requires c κs =
     let s = c.before.before.before.before.before.before.before in (
       (sound _ _ s.requires.0).sizes,
@@ -76,10 +76,10 @@ count_from_requires c κs =
       row_wider 80000 100000 s.args.across.now (omega arith) s.requires.4,
     )
 
-count_from_requires_2 : tie.Need-count-from-requires-2
+count_from_requires_2 : tie.Need-count_from-requires-2
 count_from_requires_2 c κs =
     let s = c.before.before.before.before.before.before.before.before.before.before.before.before.before.before in
-    let one = c.before.before.before.before.before.before.count-from.ensures in (
+    let one = c.count_from.ensures in (
       (sound _ _ s.requires.0).sizes,
       s.requires.1,
       right s,
@@ -92,11 +92,11 @@ count_from_requires_2 c κs =
 
 returns : tie.Need-returns
 returns c =
-    let a = c.before.before.before.before.before.before.before.before.before.before.before.before.before.before.before.before.before.before.before.args in
+    let a = c.args in
     let h = a.head in
     let d = a.blocks.now in
-    let one = c.before.before.before.before.before.before.before.before.before.before.before.count-from.ensures in
-    let two = c.before.before.before.before.count-from2.ensures in
+    let one = c.count_from.ensures in
+    let two = c.count_from-2.ensures in
     let l = part_same (2 * h.p * a.j) h.p d in
     let r = part_same (2 * h.p * a.j + h.p) h.p d in
     (block_within h d a.j l r one.0 (search two.0), block-across h d a.j l r one.1 (search two.1))

@@ -9,23 +9,23 @@ use borrow.Author.Rules.{rules}
 use Rattle.design.proofs.differences.count_differences.Statement.{statement}
 use Rattle.design.proofs.differences.count_differences.Tie as tie
 
-returns : tie.Need-returns
+returns : tie.Need-returns-then-is_refused
 returns c =
-    let told = c.before.before.pairs-refusal.ensures in
-    let r = refusing _ (sym c.before.is-refused.ensures ∙ c.if1.true) in
+    let told = c.pairs_refusal-verdict.ensures in
+    let r = refusing _ (sym c.is_refused.ensures ∙ c.if-is_refused.true) in
     search (refused-is _ _ _ _ _ told (sym told ∙ r))
 
 -- past the refusal, the list is accepted
-passed : (c : tie.Else1) → design_verdict c.before.before.before.before.args.head c.before.before.before.before.args.blocks.now ≡ accepted
-passed c = sym c.before.before.pairs-refusal.ensures ∙ accepting _ (sym c.before.is-refused.ensures ∙ c.if1.false)
+passed : (c : tie.Else-is_refused) → design_verdict c.args.head c.args.blocks.now ≡ accepted
+passed c = sym c.pairs_refusal-verdict.ensures ∙ accepting _ (sym c.is_refused.ensures ∙ c.if-is_refused.false)
 
-count_blocks_requires : tie.Need-count-blocks-requires
+count_blocks_requires : tie.Need-count_blocks-requires
 count_blocks_requires c κs = (passed c.before.before, refl, refl)
 
-returns-2 : tie.Need-returns-2
+returns-2 : tie.Need-returns
 returns-2 c =
-    let told = c.before.before.before.before.before.before.before.pairs-refusal.ensures in
-    let counted = c.before.before.count-blocks.ensures in
+    let told = c.pairs_refusal-verdict.ensures in
+    let counted = c.count_blocks.ensures in
     accepted-is _ _ _ _ _ told (passed c.before.before.before.before.before) counted.0 counted.1
 
 pub count_differences_spec : {M : Type 1} → statement M

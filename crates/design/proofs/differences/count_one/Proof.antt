@@ -9,41 +9,41 @@ use borrow.Author.Rules.{rules}
 use Rattle.design.proofs.differences.count_one.Statement.{statement}
 use Rattle.design.proofs.differences.count_one.Tie as tie
 
-returns : tie.Need-returns
+returns : tie.Need-returns-then-byte-eq255
 returns c =
-    let a = c.before.before.before.before.before.args in
-    (from_fixed a.head a.byte a.own.now a.within.now c.if1.true, from_fixed a.head a.byte a.other.now a.across.now c.if1.true)
+    let a = c.args in
+    (from_fixed a.head a.byte a.own.now a.within-1.now c.if-byte-eq255.true, from_fixed a.head a.byte a.other.now a.across-1.now c.if-byte-eq255.true)
 
 -- past ∞ the byte is an element
-element : (c : tie.Else1) → c.before.before.before.before.before.args.byte < c.before.before.before.before.before.args.head.n
-element c = let s = c.before.before.before.before.before in names s.args.head s.args.byte s.requires.2 c.if1.false
+element : (c : tie.Else-byte-eq255) → c.args.byte < c.args.head.n
+element c = let s = c.before.before.before.before.before in names s.args.head s.args.byte s.requires.2 c.if-byte-eq255.false
 
 -- and its shift is one
-shift : (c : tie.After-back) → c.back.result < c.before.before.before.before.before.before.args.head.n
+shift : (c : tie.After-back-shift) → c.back-shift.result < c.args.head.n
 shift c =
     let s = c.before.before.before.before.before.before in
-    omega (arith, c.back.ensures, back_below s.args.head (plus_group s.args.head s.requires.0.has_addition_lem) s.args.byte (element c.before))
+    omega (arith, c.back-shift.ensures, back_below s.args.head (plus_group s.args.head s.requires.0.has_addition_lem) s.args.byte (element c.before))
 
-back_requires : tie.Need-back-requires
+back_requires : tie.Need-back-shift-requires
 back_requires c κs = let s = c.before.before.before.before.before in (s.requires.0, element c, s.requires.1)
 
-add_side_requires : tie.Need-add-side-requires
+add_side_requires : tie.Need-add_side-requires
 add_side_requires c κs =
     let s = c.before.before.before.before.before.before.before in
     (s.requires.0, s.requires.1, shift c.before, s.requires.3, s.requires.5)
 
-add_side_requires_2 : tie.Need-add-side-requires-2
+add_side_requires_2 : tie.Need-add_side-requires-2
 add_side_requires_2 c κs =
     let s = c.before.before.before.before.before.before.before.before.before.before.before in
     (s.requires.0, s.requires.1, shift c.before.before.before.before.before, s.requires.4, s.requires.6)
 
-returns-2 : tie.Need-returns-2
+returns-2 : tie.Need-returns
 returns-2 c =
-    let a = c.before.before.before.before.before.before.before.before.before.before.before.before.before.before.args in
+    let a = c.args in
     let b = c.before.before.before.before.before.before.before.before in
-    let from = from_element a.head a.byte b.back.result in (
-      from a.own.now _ _ b.before.if1.false b.back.ensures c.before.before.before.before.before.before.add-side.ensures,
-      from a.other.now _ _ b.before.if1.false b.back.ensures c.before.before.add-side2.ensures,
+    let from = from_element a.head a.byte b.back-shift.result in (
+      from a.own.now _ _ b.if-byte-eq255.false b.back-shift.ensures c.add_side.ensures,
+      from a.other.now _ _ b.if-byte-eq255.false b.back-shift.ensures c.add_side-2.ensures,
     )
 
 pub count_one_spec : {M : Type 1} → statement M

@@ -7,14 +7,14 @@ use borrow.Author.Rules.{rules}
 use Rattle.design.proofs.sizes.counted.Statement.{statement}
 use Rattle.design.proofs.sizes.counted.Tie as tie
 
-returns : tie.Need-returns
+returns : tie.Need-returns-then-with_fixed
 returns c =
-    let odd : c.before.before.args.head.flag % 2 ≡ 1 = eqb-true _ _ (sym c.before.with-fixed.ensures ∙ c.if1.true) in
+    let odd : c.args.head.flag % 2 ≡ 1 = eqb-true _ _ (sym c.with_fixed.ensures ∙ c.if-with_fixed.true) in
     omega (arith, odd)
 
-returns-2 : tie.Need-returns-2
+returns-2 : tie.Need-returns-else-with_fixed
 returns-2 c =
-    let even = eqb-false (c.before.before.args.head.flag % 2) 1 (sym c.before.with-fixed.ensures ∙ c.if1.false) in
+    let even = eqb-false (c.args.head.flag % 2) 1 (sym c.with_fixed.ensures ∙ c.if-with_fixed.false) in
     omega (arith, even)
 
 pub counted_spec : {M : Type 1} → statement M

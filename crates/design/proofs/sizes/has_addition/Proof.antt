@@ -4,11 +4,11 @@ use borrow.Author.Rules.{rules}
 use Rattle.design.proofs.sizes.has_addition.Statement.{statement}
 use Rattle.design.proofs.sizes.has_addition.Tie as tie
 
-returns : tie.Need-returns
-returns c = rw (sym c.before.before.by_field.ensures ∙ c.before.if1.true, ← c.field-prime.ensures) (search rules)
+returns : tie.Need-returns-then-by_field
+returns c = rw (sym c.by_field.ensures ∙ c.if-by_field.true, ← c.field_prime.ensures) (search rules)
 
-returns-2 : tie.Need-returns-2
-returns-2 c = rw (sym c.before.by_field.ensures ∙ c.if1.false)
+returns-2 : tie.Need-returns-else-by_field
+returns-2 c = rw (sym c.by_field.ensures ∙ c.if-by_field.false)
 
 pub has_addition_spec : {M : Type 1} → statement M
 has_addition_spec = tie.close (tie.spec (λ c κs. search rules) (λ c κs. search rules) returns returns-2)

@@ -9,16 +9,16 @@ use Rattle.design.proofs.sizes.objects.Statement.{statement}
 use Rattle.design.proofs.sizes.objects.Tie as tie
 
 -- past the test the sizes hold
-passed : (c : tie.Else1) → sized c.before.before.args.head ≡ true
-passed c = sym c.before.sized.ensures ∙ not-false _ c.if1.false
+passed : (c : tie.Else-not-sized) → sized c.args.head ≡ true
+passed c = sym c.sized.ensures ∙ not-false _ c.if-not-sized.false-raw
 
-returns : tie.Need-returns
-returns c = rw (sym c.before.sized.ensures ∙ not-true _ c.if1.true) (search rules)
+returns : tie.Need-returns-then-not-sized
+returns c = rw (sym c.sized.ensures ∙ not-true _ c.if-not-sized.true-raw) (search rules)
 
 counted_requires : tie.Need-counted-requires
 counted_requires c κs = (fits _ (passed c)).n_most
 
-returns-2 : tie.Need-returns-2
+returns-2 : tie.Need-returns
 returns-2 c = rw (passed c.before) c.counted.ensures
 
 pub objects_spec : {M : Type 1} → statement M

@@ -1,12 +1,12 @@
 // Numbers that arguments are.
-use libc::STDERR_FILENO;
+use crate::system::{ARGUMENT_ROOM, argument, write_error};
 use records::SignedNumeral;
 use sheets::{is_decimal, signed};
 
 // The number that argument `i` is. One that does not fit 64 bits is out of the range of every call, as the largest that does. What is no number is said on standard error.
-pub(crate) fn number_argument(i: usize) -> SignedNumeral {
-    let mut word = io::buffer();
-    let length = os::arg(i, &mut word);
+pub(crate) fn number_argument(rt: &HostRuntime, i: usize) -> SignedNumeral {
+    let mut word = [0u8; ARGUMENT_ROOM];
+    let length = argument(rt, i, &mut word);
     let number = signed(&word[..length]);
     if number.read {
         return number;
@@ -17,8 +17,8 @@ pub(crate) fn number_argument(i: usize) -> SignedNumeral {
             number: 9223372036854775807,
         };
     }
-    io::write_all(STDERR_FILENO, b"bench: ");
-    io::write_all(STDERR_FILENO, &word[..length]);
-    io::write_all(STDERR_FILENO, b": this is not a number\n");
+    write_error(rt, b"bench: ");
+    write_error(rt, &word[..length]);
+    write_error(rt, b": this is not a number\n");
     number
 }

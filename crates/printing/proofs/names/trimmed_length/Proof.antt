@@ -10,26 +10,26 @@ use Rattle.printing.proofs.names.Shown.{trimmed-none, trimmed_on, trimmed_up_to}
 use Rattle.printing.proofs.names.trimmed_length.Statement.{statement}
 use Rattle.printing.proofs.names.trimmed_length.Tie as tie
 
-abbrev invariant-loop : tie.invariant-loop
+abbrev invariant-loop : tie.invariant-loop-i
 invariant-loop name kept₀ i₀ kept i = (kept ≤ i) × (i ≤ length name) × (take kept name ≡ trimmed (take i name))
 
-abbrev decreases-loop : tie.decreases-loop
+abbrev decreases-loop : tie.decreases-loop-i
 decreases-loop name kept₀ i₀ kept i = length name - i
 
-loop-again : tie.Need-loop-preserved invariant-loop decreases-loop
+loop-again : tie.Need-loop-i-preserved invariant-loop decreases-loop
 loop-again c =
     let turn = c.before.before.before in
-    let name = turn.before.args.name.now in
-    let i = turn.loop.i in
+    let name = turn.args.name.now in
+    let i = turn.loop-i.i in
     ⊎_elim
     (λ w. (omega arith, omega arith, rw w.1 (trimmed_up_to name i (omega arith) (λ e. omega arith))))
-    (λ w. (omega arith, omega arith, rw w.1 (trimmed_on name i (omega arith) turn.loop.auto (omega arith) turn.loop.invariant.2)))
-    c.if1.branch
+    (λ w. (omega arith, omega arith, rw w.1 (trimmed_on name i (omega arith) turn.loop-i.auto (omega arith) turn.loop-i.invariant.2)))
+    c.if-name-i-ne32.branch
 
 returns : tie.Need-returns invariant-loop decreases-loop
 returns c =
-    let name = c.before.before.args.name.now in
-    (omega arith, rw (take_all c.before.loop.i name (omega arith)) at c.before.loop.invariant.2)
+    let name = c.args.name.now in
+    (omega arith, rw (take_all c.loop-i.i name (omega arith)) at c.loop-i.invariant.2)
 
 pub trimmed_length_spec : {M : Type 1} → statement M
 trimmed_length_spec =

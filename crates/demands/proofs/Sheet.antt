@@ -34,7 +34,7 @@ use Rattle.laws.proofs.Occurrences.{Each, each-head, each_tail}
 use Rattle.laws.proofs.Clean.{left-objects, right-objects}
 use Rattle.laws.proofs.Files.{file-job}
 use Rattle.laws.proofs.Edition2.{file_job2}
-use Rattle.claims.proofs.Sheets.{differs-most, right-before, differs_at, all_right, first_off, against-object, against-spread}
+use Rattle.claims.proofs.Sheets.{differs-most, right-before, differs_at_lem, all_right, first_off, against-object, against-spread}
 use Rattle.demands.specs.Job.{Job, job_in, v, verdict_of, exact, published, squares}
 use Rattle.demands.specs.Fractions.{distance, hundredths}
 use Rattle.demands.specs.Demand3.{hundredth, half_hundredth, excess, Member, LeastSquares}
@@ -113,7 +113,7 @@ module _ (n : ℕ) (f : ℕ → ℤ) (spread : Spread) (claims : List ℤ) (clai
       go true p =
           let l = ltb-true found n p in
           let is = named_object i e l in
-          (λ o k. right-before n f claims o (omega (arith, is, k)), subst (λ (x : ℕ). claim claims x ≡ f x → ⊥) (sym is) (differs_at n f claims l))
+          (λ o k. right-before n f claims o (omega (arith, is, k)), subst (λ (x : ℕ). claim claims x ≡ f x → ⊥) (sym is) (differs_at_lem n f claims l))
       go false p = absurd (omega (arith, m, (named_spread i e (ltb-false found n p)).0))
 
   spread-differs : compared ≡ differs n → ((i : ℕ) → i < n → claim claims i ≡ f i) × (same_spread claimed spread ≡ false)

@@ -1,5 +1,5 @@
 -- By their sizes the four fields end within the bytes, or the bytes end before.
-use Rattle.std.proofs.Common.{◌≡◌, ap, ◌∙◌, ℕ, List, drop, arith}
+use Rattle.std.proofs.Common.{ap, ◌∙◌, ℕ, List, arith}
 use Rattle.meaning.specs.File.{end_at}
 use Rattle.fields.proofs.second.Answers.{rest-is, end_bound, end_none, end_short, end_there}
 use Rattle.fields.proofs.second.four_end.Goals as goal

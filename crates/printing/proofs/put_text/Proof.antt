@@ -9,23 +9,23 @@ use Rattle.algebra.proofs.Writing.{nothing, more_bytes, kept, named}
 use Rattle.printing.proofs.put_text.Statement.{statement}
 use Rattle.printing.proofs.put_text.Tie as tie
 
-abbrev invariant-loop : tie.invariant-loop
+abbrev invariant-loop : tie.invariant-loop-i
 invariant-loop out₀ at text place₀ i₀ out place i = (i ≤ length text) × Wrote out₀ at (take i text) out place
 
-abbrev decreases-loop : tie.decreases-loop
+abbrev decreases-loop : tie.decreases-loop-i
 decreases-loop out₀ at text place₀ i₀ out place i = length text - i
 
-loop-again : tie.Need-loop-preserved invariant-loop decreases-loop
+loop-again : tie.Need-loop-i-preserved invariant-loop decreases-loop
 loop-again c =
     let put = c.before.before in
     let turn = put.before.before.before.before in
     let start = turn.before.before.before in
-    (omega arith, more_bytes start.args.text.now turn.loop.i (omega arith) turn.loop.invariant.1 (named put.put_byte.ensures (search rules)))
+    (omega arith, more_bytes start.args.text.now turn.loop-i.i (omega arith) turn.loop-i.invariant.1 (named put.put_byte-place.ensures (search rules)))
 
 returns : tie.Need-returns invariant-loop decreases-loop
 returns c =
-    let text = c.before.before.before.before.args.text.now in
-    named c.before.loop.invariant.1 (take_all c.before.loop.i text (omega arith))
+    let text = c.args.text.now in
+    named c.loop-i.invariant.1 (take_all c.loop-i.i text (omega arith))
 
 pub put_text_spec : {M : Type 1} → statement M
 put_text_spec =
@@ -39,5 +39,5 @@ put_text_spec =
     (λ c. omega arith)
     (λ c. omega arith)
     loop-again
-    (λ c. kept c.before.loop.invariant.1)
+    (λ c. kept c.loop-i.invariant.1)
     returns)

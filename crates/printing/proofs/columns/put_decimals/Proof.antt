@@ -11,7 +11,7 @@ returns c =
     let c3 = c4.before.before.before.before in
     let c2 = c3.before.before.before.before in
     let c1 = c2.before.before.before.before in
-    named (c1.put-digits.ensures then (c2.put_byte.ensures then c3.put-byte2.ensures then c4.put-byte3.ensures)) (search rules)
+    named (c1.put_digits-whole_end.ensures then (c2.put_byte-point_end.ensures then c3.put_byte-tenth_end.ensures then c4.put_byte.ensures)) (search rules)
 
 pub put_decimals_spec : {M : Type 1} → statement M
 put_decimals_spec =

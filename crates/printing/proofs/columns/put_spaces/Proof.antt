@@ -11,22 +11,22 @@ use Rattle.printing.proofs.Each.{no_lines, more-lines}
 use Rattle.printing.proofs.columns.put_spaces.Statement.{statement}
 use Rattle.printing.proofs.columns.put_spaces.Tie as tie
 
-abbrev invariant-loop : tie.invariant-loop
+abbrev invariant-loop : tie.invariant-loop-i
 invariant-loop out₀ at count place₀ i₀ out place i = (i ≤ count) × Wrote out₀ at (spaces i) out place
 
-abbrev decreases-loop : tie.decreases-loop
+abbrev decreases-loop : tie.decreases-loop-i
 decreases-loop out₀ at count place₀ i₀ out place i = count - i
 
-loop-again : tie.Need-loop-preserved invariant-loop decreases-loop
+loop-again : tie.Need-loop-i-preserved invariant-loop decreases-loop
 loop-again c =
     let put = c.before.before in
     let turn = put.before.before.before in
-    (omega arith, more-lines (λ i. 32 ∷ []) turn.loop.i turn.loop.invariant.1 (named put.put_byte.ensures (search rules)))
+    (omega arith, more-lines (λ i. 32 ∷ []) turn.loop-i.i turn.loop-i.invariant.1 (named put.put_byte-place.ensures (search rules)))
 
 returns : tie.Need-returns invariant-loop decreases-loop
 returns c =
-    let e : c.before.loop.i ≡ c.before.before.before.args.count = omega arith in
-    named c.before.loop.invariant.1 (λ j. spaces (e j))
+    let e : c.loop-i.i ≡ c.args.count = omega arith in
+    named c.loop-i.invariant.1 (λ j. spaces (e j))
 
 pub put_spaces_spec : {M : Type 1} → statement M
 put_spaces_spec =
@@ -39,5 +39,5 @@ put_spaces_spec =
     (λ c. omega arith)
     (λ c. omega arith)
     loop-again
-    (λ c. kept c.before.loop.invariant.1)
+    (λ c. kept c.loop-i.invariant.1)
     returns)

@@ -8,7 +8,7 @@ returns : tie.Need-returns
 returns c =
     let c2 = c.before.before in
     let c1 = c2.before.before.before.before in
-    named (c1.put_byte.ensures then c2.put-digits.ensures) (search rules)
+    named (c1.put_byte-next.ensures then c2.put_digits.ensures) (search rules)
 
 pub put_number_spec : {M : Type 1} → statement M
 put_number_spec =

@@ -9,31 +9,31 @@ use borrow.Author.Rules.{rules}
 use Rattle.printing.proofs.decimals.put_signed.Statement.{statement}
 use Rattle.printing.proofs.decimals.put_signed.Tie as tie
 
-module _ (c : tie.After-size) where
+module _ (c : tie.After-size-magnitude) where
   abbrev start : tie.Start
   start = c.before.before
 
-  size : nat_abs start.args.x ≡ c.size.result
-  size = sym (c.size.ensures ∙ ap nat_abs (to_z-of_z start.fits.x))
+  size : nat_abs start.args.x ≡ c.size-magnitude.result
+  size = sym (c.size-magnitude.ensures ∙ ap nat_abs (to_z-of_z start.ranges.x))
 
-returns : tie.Need-returns
+returns : tie.Need-returns-then-x-lt0
 returns c =
     let c3 = c.before.before in
     let c2 = c3.before.before.before.before in
     let c1 = c2.before.before.before.before in
     let m = c1.before.before.before in
     let x = (start m).args.x in
-    let below = plain _ (start m).ranges.x c1.before.before.if1.true in
-    named (c1.put_byte.ensures then c2.put-byte2.ensures then c3.put-digits.ensures)
+    let below = plain _ (start m).ranges.x c1.if-x-lt0.true in
+    named (c1.put_byte-sign.ensures then c2.put_byte-first.ensures then c3.put_digits.ensures)
     (rw (signed_below x below, size m) (search rules))
 
-returns-2 : tie.Need-returns-2
+returns-2 : tie.Need-returns-else-x-lt0
 returns-2 c =
     let c1 = c.before.before in
     let m = c1.before.before.before in
     let x = (start m).args.x in
-    let above = plain _ (start m).ranges.x c1.before.before.if1.false in
-    named c1.put-number.ensures (rw (signed_above x above, size m) (search rules))
+    let above = plain _ (start m).ranges.x c1.if-x-lt0.false in
+    named c1.put_number.ensures (rw (signed_above x above, size m) (search rules))
 
 pub put_signed_spec : {M : Type 1} → statement M
 put_signed_spec =

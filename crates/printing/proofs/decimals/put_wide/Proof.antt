@@ -8,7 +8,7 @@ returns : tie.Need-returns
 returns c =
     let c2 = c.before.before in
     let c1 = c2.before.before.before.before in
-    named (c1.put_byte.ensures then c2.put-wide-digits.ensures) (search rules)
+    named (c1.put_byte-first.ensures then c2.put_wide_digits.ensures) (search rules)
 
 pub put_wide_spec : {M : Type 1} → statement M
 put_wide_spec =

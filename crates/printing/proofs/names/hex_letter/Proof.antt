@@ -11,5 +11,5 @@ hex_letter_spec =
     (tie.spec
     (λ c. search rules)
     (λ c. search rules)
-    (λ c. rw (lt-ltb c.before.args.digit 10 (omega arith)) (search rules))
-    (λ c. rw (le-ltb c.before.args.digit 10 (omega arith)) (search rules)))
+    (λ c. rw (lt-ltb c.args.digit 10 (omega arith)) (search rules))
+    (λ c. rw (le-ltb c.args.digit 10 (omega arith)) (search rules)))

@@ -5,18 +5,18 @@ use borrow.Author.Rules.{rules}
 use Rattle.printing.proofs.names.put_escaped_byte.Statement.{statement}
 use Rattle.printing.proofs.names.put_escaped_byte.Tie as tie
 
-returns : tie.Need-returns
+returns : tie.Need-returns-then-is_shown
 returns c =
     let put = c.before.before in
     let test = put.before.before in
-    named put.put_byte.ensures (rw (sym test.before.is-shown.ensures ∙ test.if1.true) (search rules))
+    named put.put_byte.ensures (rw (sym test.is_shown.ensures ∙ test.if-is_shown.true) (search rules))
 
-returns-2 : tie.Need-returns-2
+returns-2 : tie.Need-returns-else-is_shown
 returns-2 c =
     let hex = c.before.before in
     let mark = hex.before.before.before.before in
     let test = mark.before.before.before in
-    named (mark.put-text.ensures then hex.put-hex.ensures) (rw (sym test.before.is-shown.ensures ∙ test.if1.false) (search rules))
+    named (mark.put_text-mark.ensures then hex.put_hex.ensures) (rw (sym test.is_shown.ensures ∙ test.if-is_shown.false) (search rules))
 
 pub put_escaped_byte_spec : {M : Type 1} → statement M
 put_escaped_byte_spec =
@@ -24,7 +24,6 @@ put_escaped_byte_spec =
     (tie.spec
     (λ c κs. tt)
     (λ c κs. tt)
-    (λ c. search rules)
     (λ c κs. tt)
     (λ c κs. tt)
     (λ c. search rules)

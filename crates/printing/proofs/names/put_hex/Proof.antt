@@ -10,7 +10,7 @@ returns c =
     let c1 = c2.before.before.before.before in
     let low = c1.before.before in
     let high = low.before in
-    named (c1.put_byte.ensures then c2.put-byte2.ensures) (rw (high.hex-letter.ensures, low.hex-letter2.ensures) (search rules))
+    named (c1.put_byte-next.ensures then c2.put_byte.ensures) (rw (high.hex_letter-high.ensures, low.hex_letter-low.ensures) (search rules))
 
 pub put_hex_spec : {M : Type 1} → statement M
 put_hex_spec =

@@ -1,6 +1,6 @@
 -- `sheets::numerals::is_digits` meets its contract: what is asked of the word is asked of the bytes that are left. Assumes nothing.
 use native.Mathlib.Omega.{arith}
-use mathlib.Core.Path.{◌≡◌, refl, sym, ◌∙◌}
+use mathlib.Core.Path.{◌≡◌, refl, ◌∙◌}
 use Prim.Native.Nat.{◌-◌, ◌≤◌, ◌<◌}
 use lib.ListN.{length, drop, get_or}
 use borrow.Author.Rules.{rules}

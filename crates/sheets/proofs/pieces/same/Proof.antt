@@ -1,13 +1,10 @@
 -- `sheets::pieces::same` meets its contract: what is asked of two texts is asked of what is left of both. Assumes nothing.
 use native.Mathlib.Omega.{arith}
-use mathlib.Core.Path.{◌≡◌, refl, sym, ap, ◌∙◌}
-use mathlib.Core.Logic.{⊎_elim}
-use Prim.Native.Nat.{◌+◌, ◌-◌, ◌≤◌, ◌<◌}
+use mathlib.Core.Path.{◌≡◌, refl, sym, ◌∙◌}
+use Prim.Native.Nat.{◌-◌, ◌≤◌, ◌<◌}
 use lib.ListN.{length, drop}
-use lib.Dec.{eqb}
 use borrow.Author.Rules.{rules}
-use Rattle.meaning.specs.Design.{occ}
-use Rattle.meaning.specs.SheetText.{before, after, rest, same}
+use Rattle.meaning.specs.SheetText.{same}
 use Rattle.sheets.proofs.pieces.Steps.{same-short, same-other, same-later, same_end}
 use Rattle.sheets.proofs.pieces.same.Statement.{statement}
 use Rattle.sheets.proofs.pieces.same.Tie as tie

@@ -1,8 +1,7 @@
 -- `sheets::sheet::read_lines` meets its contract: after k lines, what is read of the first k and their claims, at the start of line k. Assumes nothing.
 use native.Mathlib.Omega.{arith}
-use mathlib.Core.Path.{◌≡◌, refl, sym, ap, ap₂, ◌∙◌}
-use mathlib.Core.Bool.{true, false}
-use Prim.Native.Nat.{◌+◌, ◌-◌, ◌≤◌, ◌<◌}
+use mathlib.Core.Path.{◌≡◌, refl, ap, ap₂, ◌∙◌}
+use Prim.Native.Nat.{◌+◌, ◌-◌, ◌≤◌}
 use lib.ListN.{length, drop, take}
 use borrow.Author.Rules.{rules}
 use native.Mathlib.Numerals.{add-one}

@@ -1,8 +1,5 @@
 -- `sheets::words::word_number` meets its contract: from the start of word k to its end stands the word. Assumes nothing.
-use native.Mathlib.Omega.{arith}
-use mathlib.Core.Path.{◌≡◌, refl, sym, ap, ◌∙◌}
-use Prim.Native.Nat.{◌+◌, ◌-◌, ◌≤◌, ◌<◌}
-use lib.ListN.{length, drop, take}
+use mathlib.Core.Path.{ap, ◌∙◌}
 use borrow.Author.Rules.{rules}
 use Rattle.meaning.specs.SheetText.{number_of}
 use Rattle.sheets.proofs.pieces.Steps.{piece-part}

@@ -57,4 +57,8 @@ returns-5 c =
     ∙ set_out a.claims.now a.read.count claim.result.number c.if-at-claims.false)
 
 pub put_claim_spec : {M : Type 1} → statement M
-put_claim_spec = tie.close (tie.spec returns (λ c κs. search rules) returns-2 (λ c κs. search rules) returns-3 (λ c. search rules) (λ c. search rules) same_length returns-4 returns-5)
+put_claim_spec =
+    tie.close
+    (tie.spec
+    returns (λ c κs. search rules) returns-2 (λ c κs. search rules) returns-3 (λ c. search rules)
+    (λ c. search rules) same_length returns-4 returns-5)

@@ -34,4 +34,8 @@ returns-4 c =
     (sym c.word_is-2.ensures ∙ c.if-word_is-2.false))
 
 pub with_line_spec : {M : Type 1} → statement M
-with_line_spec = tie.close (tie.spec returns (λ c κs. search rules) (λ c κs. search rules) returns-2 (λ c κs. search rules) (λ c κs. search rules) returns-3 returns-4)
+with_line_spec =
+    tie.close
+    (tie.spec
+    returns (λ c κs. search rules) (λ c κs. search rules) returns-2 (λ c κs. search rules)
+    (λ c κs. search rules) returns-3 returns-4)

@@ -48,4 +48,8 @@ returns-2 c =
     signed-plain w c.number-above.result (sym c.begins_with_minus.ensures ∙ c.if-begins_with_minus.false) c.number-above.ensures
 
 pub signed_spec : {M : Type 1} → statement M
-signed_spec = tie.close (tie.spec (λ c κs. search rules) sub_number part_number_start (λ c. search rules) (λ c κs. search rules) opposite_requires returns (λ c κs. search rules) cast_t10 returns-2)
+signed_spec =
+    tie.close
+    (tie.spec
+    (λ c κs. search rules) sub_number part_number_start (λ c. search rules) (λ c κs. search rules)
+    opposite_requires returns (λ c κs. search rules) cast_t10 returns-2)

@@ -40,5 +40,9 @@ returns-2 c =
     (sym (l.invariant.1 ∙ after_none s _ l.i end), omega arith)
 
 pub next_piece_spec : {M : Type 1} → statement M
-next_piece_spec = tie.close (tie.spec invariant-loop decreases-loop loop-holds (λ c. search rules) (λ c. search rules) returns (λ c. search rules) (λ c. search rules)
+next_piece_spec =
+    tie.close
+    (tie.spec
+    invariant-loop decreases-loop loop-holds (λ c. search rules) (λ c. search rules) returns
+    (λ c. search rules) (λ c. search rules)
     loop-again returns-2)

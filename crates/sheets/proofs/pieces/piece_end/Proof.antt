@@ -42,4 +42,8 @@ returns-2 c =
     (omega (arith, none, l.invariant.1), omega arith)
 
 pub piece_end_spec : {M : Type 1} → statement M
-piece_end_spec = tie.close (tie.spec invariant-loop decreases-loop loop-holds (λ c. search rules) returns (λ c. search rules) (λ c. search rules) loop-again returns-2)
+piece_end_spec =
+    tie.close
+    (tie.spec
+    invariant-loop decreases-loop loop-holds (λ c. search rules) returns (λ c. search rules)
+    (λ c. search rules) loop-again returns-2)

@@ -34,4 +34,8 @@ returns c =
     (l.invariant.2 ∙ ap (λ i. rest a.byte i a.bytes.now) e, l.invariant.1)
 
 pub piece_start_spec : {M : Type 1} → statement M
-piece_start_spec = tie.close (tie.spec invariant-loop decreases-loop loop-holds (λ c κs. search rules) (λ c. search rules) (λ c. search rules) loop-again returns)
+piece_start_spec =
+    tie.close
+    (tie.spec
+    invariant-loop decreases-loop loop-holds (λ c κs. search rules) (λ c. search rules) (λ c. search rules)
+    loop-again returns)

@@ -47,5 +47,9 @@ returns-3 c =
     search (sym (l.invariant.2 ∙ same_end a.a.now a.b.now l.i end (omega arith)))
 
 pub same_spec : {M : Type 1} → statement M
-same_spec = tie.close (tie.spec invariant-loop decreases-loop loop-holds returns (λ c. search rules) (λ c. search rules) returns-2 (λ c. search rules) (λ c. search rules)
+same_spec =
+    tie.close
+    (tie.spec
+    invariant-loop decreases-loop loop-holds returns (λ c. search rules) (λ c. search rules) returns-2
+    (λ c. search rules) (λ c. search rules)
     loop-again returns-3)

@@ -70,4 +70,9 @@ returns c =
     (l.invariant.4 ∙ ap (λ k. read_to k s) e, l.invariant.5 ∙ ap (λ k. laid (claims_to k s) a.claims.now) e)
 
 pub read_lines_spec : {M : Type 1} → statement M
-read_lines_spec = tie.close (tie.spec invariant-loop decreases-loop (λ c κs. search rules) loop-holds (λ c κs. search rules) (λ c. search rules) (λ c. search rules) (λ c. search rules) (λ c. search rules) read_line_requires (λ c κs. search rules) (λ c. search rules) (λ c. search rules) loop-again same_length returns)
+read_lines_spec =
+    tie.close
+    (tie.spec
+    invariant-loop decreases-loop (λ c κs. search rules) loop-holds (λ c κs. search rules) (λ c. search rules)
+    (λ c. search rules) (λ c. search rules) (λ c. search rules) read_line_requires (λ c κs. search rules)
+    (λ c. search rules) (λ c. search rules) loop-again same_length returns)

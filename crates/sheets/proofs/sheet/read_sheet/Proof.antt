@@ -34,4 +34,8 @@ returns-2 c =
     )
 
 pub read_sheet_spec : {M : Type 1} → statement M
-read_sheet_spec = tie.close (tie.spec (λ c κs. search rules) returns (λ c κs. search rules) (λ c. search rules) (λ c κs. search rules) (λ c κs. search rules) same_length returns-2)
+read_sheet_spec =
+    tie.close
+    (tie.spec
+    (λ c κs. search rules) returns (λ c κs. search rules) (λ c. search rules) (λ c κs. search rules)
+    (λ c κs. search rules) same_length returns-2)

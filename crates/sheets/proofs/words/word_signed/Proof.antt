@@ -14,4 +14,8 @@ returns c =
     c.signed.ensures ∙ ap signed_of (piece-part 32 a.line.now a.k start.result end.result start.ensures.0 end.ensures.0)
 
 pub word_signed_spec : {M : Type 1} → statement M
-word_signed_spec = tie.close (tie.spec (λ c κs. search rules) (λ c κs. search rules) (λ c. search rules) (λ c. search rules) (λ c. search rules) (λ c κs. search rules) returns)
+word_signed_spec =
+    tie.close
+    (tie.spec
+    (λ c κs. search rules) (λ c κs. search rules) (λ c. search rules) (λ c. search rules) (λ c. search rules)
+    (λ c κs. search rules) returns)

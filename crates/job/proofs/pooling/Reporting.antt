@@ -1,6 +1,6 @@
 -- Taking the jobs in one after another gives the report of the definition: each step adds to the sums what the definition adds, moves the index on by one, and
 -- keeps the mark of the first job that differs. At the end the sums keep the range in which the spread is the definition's. Assumes nothing.
-use Prim.Native.Nat.{ℕ, suc, ◌+◌, ◌*◌, ◌≤◌, ◌<◌}
+use Prim.Native.Nat.{ℕ, zero, suc, ◌+◌, ◌-◌, ◌*◌, ◌^◌, ◌≤◌, ◌<◌}
 use mathlib.Core.Path.{◌≡◌, refl, sym, ap, subst, ◌∙◌}
 use mathlib.Core.Bool.{Bool, true, false, cond, ◌&&◌}
 use mathlib.Core.List.{List, [], ◌∷◌}
@@ -13,6 +13,7 @@ use Rattle.records.specs.declared.Solved.{Solved}
 use Rattle.records.specs.declared.Spreading.{Spreading}
 use Rattle.records.specs.declared.Verdict.{Verdict}
 use Rattle.records.specs.declared.Verdict.TheVariants.{Accepted, Refused}
+use Rattle.records.specs.declared.Wide.{Wide}
 use Rattle.meaning.specs.Design.{beta}
 use Rattle.meaning.specs.Analysis.{spread_hundredths}
 use Rattle.meaning.specs.Wide.{value, wide}
@@ -20,7 +21,24 @@ use Rattle.meaning.specs.Publishing.{spread_of}
 use Rattle.meaning.specs.Refusals.{accepted, refused, test, ◌⨾◌}
 use Rattle.meaning.specs.Calls.{given, solved_under, no_spreading}
 use Rattle.meaning.specs.File.{head_of, blocks_of, readings_of, set_of, read_verdict}
-use Rattle.meaning.specs.Pooled.{pool_limit, vIn, beta_in, vbeta_in, qIn, freedom_in, first_bad, bad_job, alike_jobs, odd_job, one_kind, jobs_verdict, jobs_index, pooled_sum, jobs_answer}
+use Rattle.meaning.specs.Pooled.{
+  pool_limit,
+  vIn,
+  beta_in,
+  vbeta_in,
+  qIn,
+  freedom_in,
+  first_bad,
+  bad_job,
+  alike_jobs,
+  odd_job,
+  one_kind,
+  jobs_verdict,
+  jobs_index,
+  pooled_sum,
+  pooled_spreading,
+  jobs_answer,
+}
 use Rattle.laws.proofs.Chains.{accepts}
 use Rattle.laws.proofs.Pooled.{file-vbeta, file-beta, file_q, file-freedom, pooled_q, pooled_freedom}
 use Rattle.arithmetic.specs.Hundredths.{hundredths_from, spreading_from}

@@ -6,7 +6,7 @@ use mathlib.Core.Bool.{Bool, true, false, cond, ◌&&◌}
 use mathlib.Core.List.{List, [], ◌∷◌}
 use native.Mathlib.Omega.{arith}
 use borrow.Author.Tests.{eq-eqb, ne_eqb, lt-ltb, le-ltb, le-leb, lt-leb}
-use lib.Dec.{eqb, ltb}
+use lib.Dec.{eqb, ltb, leb}
 use lib.ListN.{length, get_or, drop, take}
 use Rattle.records.specs.declared.Pooled.{Pooled}
 use Rattle.records.specs.declared.Solved.{Solved}
@@ -18,13 +18,25 @@ use Rattle.meaning.specs.Wide.{value, wide}
 use Rattle.meaning.specs.Refusals.{accepted, refused, ◌⨾◌}
 use Rattle.meaning.specs.Calls.{given, solved_under, rooms}
 use Rattle.meaning.specs.File.{head_of, blocks_of, readings_of, set_of, read_verdict, solve_verdict}
-use Rattle.meaning.specs.Pooled.{pool_limit, lengths_sum, jobs_in, pooled_verdict, pooled_index, jobs_answer, pooled_answer}
+use Rattle.meaning.specs.Pooled.{pool_limit, lengths_sum, jobs_in, jobs_verdict, pooled_verdict, jobs_index, pooled_index, jobs_answer, pooled_answer}
 use Rattle.laws.proofs.Pooled.{file-measures}
 use Rattle.analysis.proofs.Accepting.{rooms-all}
 use Rattle.arithmetic.specs.Hundredths.{spreading_from}
 use Rattle.verdicts.proofs.Told.{refusing}
 use Rattle.job.specs.declared.pooling.Sums.{Sums}
-use Rattle.job.specs.Taking.{adds_up, EndToEnd, worked_job, no_pool, no_sums, alike_with, with_first, with_job, finished, pooled_from}
+use Rattle.job.specs.Taking.{
+  adds_up,
+  EndToEnd,
+  worked_job,
+  no_pool,
+  no_sums,
+  alike_with,
+  with_first,
+  with_later,
+  with_job,
+  finished,
+  pooled_from,
+}
 use Rattle.job.proofs.pooling.Cutting.{sum_on, adds_up_lem, jobs_on, jobs_end, jobs_count}
 use Rattle.job.proofs.pooling.Reporting.{still_light, report_is}
 

@@ -17,7 +17,23 @@ use Rattle.records.specs.declared.Verdict.TheVariants.{Accepted, Refused}
 use Rattle.meaning.specs.Refusals.{accepted, refused}
 use Rattle.meaning.specs.Calls.{given, solved_under, words_under, values_under, deviations_under}
 use Rattle.meaning.specs.File.{big, head_of, blocks_of, readings_of, set_of, sum_of, fields, solve_verdict}
-use Rattle.meaning.specs.Edition2.{file_limit2, edition, four_of, moved_on, names_tag, names_length, optional_at, optionals, optional_fields, names_at, fields2, read_verdict2, read_answer2, solve_verdict2}
+use Rattle.meaning.specs.Edition2.{
+  file_limit2,
+  start_at,
+  edition,
+  four_of,
+  moved_on,
+  names_tag,
+  names_length,
+  optional_at,
+  optionals,
+  optional_fields,
+  names_at,
+  fields2,
+  read_verdict2,
+  read_answer2,
+  solve_verdict2,
+}
 use Rattle.laws.proofs.Edition2.{four-part, given-moved, solve_moved2}
 use Rattle.verdicts.specs.Zeros.{no_job, no_solution}
 use Rattle.verdicts.proofs.Told.{refusing}

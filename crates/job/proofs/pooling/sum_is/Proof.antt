@@ -1,4 +1,5 @@
 -- `job::pooling::sum_is` meets its contract: what is left, with all lengths, is the total with the lengths that are left. Assumes nothing.
+use borrow.Author.Rules.{rules}
 use Prim.Native.Nat.{ℕ, ◌+◌, ◌-◌, ◌≤◌}
 use mathlib.Core.Path.{◌≡◌, sym}
 use mathlib.Core.List.{List}

@@ -1,5 +1,5 @@
 -- `job::reading::read` meets its contract: what it hands back is made under the verdict of reading. Assumes nothing.
-use mathlib.Core.Path.{sym, ap, ◌∙◌}
+use mathlib.Core.Path.{◌≡◌, sym, ap, ◌∙◌}
 use borrow.Author.Rules.{rules}
 use Rattle.algebra.proofs.Signs.{read_back}
 use Rattle.records.specs.declared.Held.{Held}

@@ -1,6 +1,7 @@
 -- `job::reading::read_refusal` meets its contract: once the fields are there, the direct call's verdict, moved, is that of reading. Assumes nothing.
 use mathlib.Core.Path.{◌≡◌, sym, ap, ◌∙◌}
 use borrow.Author.Rules.{rules}
+use Rattle.records.specs.declared.Verdict.{Verdict}
 use Rattle.meaning.specs.Refusals.{accepted}
 use Rattle.meaning.specs.File.{fields, placed, read_verdict}
 use Rattle.verdicts.proofs.Told.{refusing, accepting}
@@ -22,9 +23,7 @@ moved_requires : tie.Need-moved-requires
 moved_requires c κs = rw c.direct_refusal-direct.ensures (direct-near _ (passed c.before))
 
 returns-2 : tie.Need-returns
-returns-2 c =
-    let s = c.args.bytes.now in
-    c.moved.ensures ∙ ap (placed s) c.direct_refusal-direct.ensures ∙ read-direct s (passed c.before.before)
+returns-2 c = c.moved.ensures ∙ ap (placed c.args.bytes.now) c.direct_refusal-direct.ensures ∙ read-direct _ (passed c.before.before)
 
 pub read_refusal_spec : {M : Type 1} → statement M
 read_refusal_spec = tie.close (tie.spec (λ c κs. search rules) (λ c κs. search rules) returns (λ c κs. passed c) moved_requires returns-2)

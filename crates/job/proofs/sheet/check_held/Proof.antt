@@ -12,7 +12,7 @@ use Rattle.algebra.proofs.Signs.{read_back}
 use Rattle.algebra.proofs.Filling.{over-long}
 use Rattle.records.specs.declared.Held.{Held}
 use Rattle.meaning.specs.Design.{blocks}
-use Rattle.meaning.specs.File.{head_of, blocks_at, third_at, blocks_of, readings_of, set_of, sum_of}
+use Rattle.meaning.specs.File.{head_of, blocks_at, third_at, readings_at, blocks_of, readings_of, set_of, sum_of}
 use Rattle.meaning.specs.Sheet.{check_answer}
 use Rattle.laws.proofs.Files.{filed}
 use Rattle.job.proofs.places.Places.{readings-most}

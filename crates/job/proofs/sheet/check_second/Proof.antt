@@ -1,5 +1,5 @@
 -- `job::sheet::check_second` meets its contract: a refusal of reading stays, and past it the job of the four fields decides. Assumes nothing.
-use mathlib.Core.Path.{◌≡◌, sym, ap, ◌∙◌}
+use mathlib.Core.Path.{◌≡◌, sym, ap, subst, ◌∙◌}
 use mathlib.Core.List.{List}
 use Prim.Native.Nat.{ℕ, ◌-◌, ◌≤◌}
 use native.Mathlib.Omega.{arith}
@@ -9,7 +9,7 @@ use Rattle.meaning.specs.File.{fields}
 use Rattle.meaning.specs.Edition2.{four_of, read_verdict2}
 use Rattle.meaning.specs.Refusals.{accepted}
 use Rattle.laws.proofs.Files.{file-job}
-use Rattle.laws.proofs.Edition2.{whole, file_job2, four-inside}
+use Rattle.laws.proofs.Edition2.{Whole, whole, file_job2, four-inside}
 use Rattle.verdicts.proofs.Told.{refusing, accepting}
 use Rattle.job.specs.Direct.{direct_checked}
 use Rattle.job.proofs.second.Fields.{part-is}

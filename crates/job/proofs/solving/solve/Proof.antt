@@ -12,11 +12,14 @@ use mir.Val.{to_z, of_z}
 use Rattle.algebra.proofs.Signs.{read_back}
 use Rattle.algebra.proofs.Filling.{over-long}
 use Rattle.records.specs.declared.Held.{Held}
+use Rattle.records.specs.declared.Head.{Head}
+use Rattle.records.specs.declared.Solved.{Solved}
 use Rattle.meaning.specs.Design.{blocks}
-use Rattle.meaning.specs.Refusals.{accepted}
-use Rattle.meaning.specs.File.{head_of, blocks_at, third_at, blocks_of, readings_of, set_of, sum_of, fields}
+use Rattle.meaning.specs.Refusals.{accepted, place}
+use Rattle.meaning.specs.File.{head_of, blocks_at, third_at, readings_at, blocks_of, readings_of, set_of, sum_of, fields}
 use Rattle.laws.proofs.Files.{filed}
 use Rattle.verdicts.proofs.Told.{accepting}
+use Rattle.job.specs.Direct.{place_limit}
 use Rattle.job.proofs.places.Places.{readings-most}
 use Rattle.job.proofs.Holding.{held-blocks, held-readings}
 use Rattle.job.proofs.solving.Rooms.{solve_near, solve_direct, solve_refused}

@@ -4,7 +4,7 @@ use mathlib.Core.Path.{◌≡◌, refl}
 use native.Mathlib.Omega.{arith}
 use Rattle.records.specs.declared.Verdict.{Verdict}
 use Rattle.records.specs.declared.Verdict.TheVariants.{Accepted, Refused}
-use Rattle.meaning.specs.Refusals.{accepted, refused, number, place}
+use Rattle.meaning.specs.Refusals.{accepted, refused}
 use Rattle.slots.specs.Pools.{told_at}
 use Rattle.slots.proofs.Numbered.{Numbered}
 

@@ -11,6 +11,7 @@ use crate::telling::told;
 use records::{Field, JobRead, JobWritten, Listed, SecondRead, Verdict};
 
 // The field at a place.
+#[tactic(auto, unfolding(crate::specs::Answers::field_call))]
 pub fn lay_field(found: Field, place: usize, answer: &mut [u64]) -> u64
     ensures value { result ≡ told (field_call found place answer.old) }
     ensures answer_after { answer.new ≡ field_laid found place answer.old }

@@ -11,6 +11,7 @@ use crate::telling::told;
 use records::{Checked, Verdict};
 
 // A sheet that was checked: a difference is laid, and only a refusal is told.
+#[tactic(auto, unfolding(crate::specs::Sheets::checked_call))]
 pub fn lay_checked(checked: Checked, answer: &mut [u64]) -> u64
     ensures value { result ≡ told (checked_call checked answer.old) }
     ensures answer_after { answer.new ≡ checked_laid checked answer.old }

@@ -1,6 +1,6 @@
 -- A claimed spread, from what a text says. Assumes nothing.
 use Prim.Native.Nat.{ℕ, ◌<◌, ◌≤◌, ◌^◌}
-use mathlib.Core.Path.{◌≡◌, refl, sym, ap, ◌∙◌}
+use mathlib.Core.Path.{◌≡◌, ap}
 use mathlib.Core.Bool.{Bool, true, false, cond, not, ◌&&◌}
 use native.Mathlib.Omega.{arith}
 use native.Mathlib.Decide.{dec_le}
@@ -11,9 +11,7 @@ use lib.IntN.{ℤ, pos, negsuc, nat_abs}
 use lib.Ieee.{Float}
 use Rattle.records.specs.declared.SheetSpread.{SheetSpread}
 use Rattle.records.specs.declared.Value.{Value}
-use Rattle.records.specs.declared.Spread.{Spread}
 use Rattle.records.specs.declared.Spread.TheVariants.{Of, None}
-use Rattle.meaning.specs.Publishing.{float}
 use Rattle.meaning.specs.SheetText.{spread_claimed, claimed_spread}
 use Rattle.arithmetic.specs.Quotient.{quotient_of, value_from}
 use Rattle.arithmetic.proofs.Exact.{Exact, quotient_is}

@@ -1,11 +1,9 @@
 -- What is read of a line, by the tests that are passed on the way. Assumes nothing.
 use Prim.Native.Nat.{ℕ, ◌+◌}
-use mathlib.Core.Path.{◌≡◌, refl, sym}
+use mathlib.Core.Path.{◌≡◌}
 use mathlib.Core.List.{List, [], ◌∷◌}
-use mathlib.Core.Bool.{Bool, true, false, cond, not, ◌&&◌}
+use mathlib.Core.Bool.{true, false}
 use borrow.Author.Tests.{eq-eqb, ne_eqb}
-use lib.IntN.{ℤ, pos}
-use lib.Dec.{eqb}
 use Rattle.records.specs.declared.Numeral.{Numeral}
 use Rattle.records.specs.declared.SignedNumeral.{SignedNumeral}
 use Rattle.records.specs.declared.SheetSpread.{SheetSpread}

@@ -1,5 +1,5 @@
 -- `sheets::claimed::claimed_spread` meets its contract: none where the text says so, else the one quotient. Assumes nothing.
-use mathlib.Core.Path.{◌≡◌, sym, ◌∙◌}
+use mathlib.Core.Path.{sym, ◌∙◌}
 use mir.Syntax.{w64}
 use mir.Val.{to_z, of_z}
 use mir.ValLaws.{to_z-of_z}

@@ -1,5 +1,4 @@
 -- `sheets::claimed::says_none` meets its contract: by the first of the two tests. Assumes nothing.
-use borrow.Author.Rules.{rules}
 use Rattle.sheets.proofs.claimed.says_none.Statement.{statement}
 use Rattle.sheets.proofs.claimed.says_none.Tie as tie
 

@@ -1,9 +1,5 @@
 -- `sheets::lines::claim` meets its contract: each way out by the tests that led there. Assumes nothing.
-use native.Mathlib.Omega.{arith}
-use mathlib.Core.Path.{◌≡◌, refl, sym, ap, ◌∙◌}
-use mathlib.Core.Bool.{true, false}
-use Prim.Native.Nat.{◌+◌, ◌-◌, ◌≤◌, ◌<◌}
-use lib.ListN.{length, drop, take}
+use mathlib.Core.Path.{◌≡◌, sym, ◌∙◌}
 use borrow.Author.Rules.{rules}
 use borrow.Author.Tests.{not-true, not-false}
 use Rattle.meaning.specs.Design.{occ}
@@ -21,7 +17,8 @@ returns-2 : tie.Need-returns-then-not-named
 returns-2 c =
     let a = c.args in
     let named = c.word_number-named in
-    c.no_hundredths-then-not-named.ensures ∙ sym (claim_unnamed a.object a.line.now named.result (sym c.count.ensures.0 ∙ c.if-count-ne4.false) named.ensures (not-true _ c.if-not-named.true))
+    c.no_hundredths-then-not-named.ensures
+    ∙ sym (claim_unnamed a.object a.line.now named.result (sym c.count.ensures.0 ∙ c.if-count-ne4.false) named.ensures (not-true _ c.if-not-named.true))
 
 returns-3 : tie.Need-returns-then-named-object
 returns-3 c =
@@ -38,4 +35,8 @@ returns-4 c =
     (not-false _ c.if-not-named.false) (search rules))
 
 pub claim_spec : {M : Type 1} → statement M
-claim_spec = tie.close (tie.spec (λ c κs. search rules) (λ c κs. search rules) returns (λ c κs. search rules) (λ c κs. search rules) returns-2 (λ c κs. search rules) returns-3 (λ c κs. search rules) returns-4)
+claim_spec =
+    tie.close
+    (tie.spec
+    (λ c κs. search rules) (λ c κs. search rules) returns (λ c κs. search rules) (λ c κs. search rules)
+    returns-2 (λ c κs. search rules) returns-3 (λ c κs. search rules) returns-4)

@@ -1,9 +1,5 @@
 -- `sheets::lines::put_claim` meets its contract: a line that adds nothing leaves the room, and so does a claim past its end. Assumes nothing.
-use native.Mathlib.Omega.{arith}
-use mathlib.Core.Path.{◌≡◌, refl, sym, ap, ◌∙◌}
-use mathlib.Core.Bool.{true, false}
-use Prim.Native.Nat.{◌+◌, ◌-◌, ◌≤◌, ◌<◌}
-use lib.ListN.{length, drop, take}
+use mathlib.Core.Path.{sym, ap, ◌∙◌}
 use borrow.Author.Rules.{rules}
 use borrow.Author.Tests.{not-true, not-false}
 use lib.ListN.{set, length-set}
@@ -61,4 +57,8 @@ returns-5 c =
     ∙ set_out a.claims.now a.read.count claim.result.number c.if-at-claims.false)
 
 pub put_claim_spec : {M : Type 1} → statement M
-put_claim_spec = tie.close (tie.spec returns (λ c. search rules) (λ c κs. search rules) returns-2 (λ c κs. search rules) returns-3 (λ c. search rules) (λ c. search rules) same_length returns-4 returns-5)
+put_claim_spec =
+    tie.close
+    (tie.spec
+    returns (λ c κs. search rules) returns-2 (λ c κs. search rules) returns-3 (λ c. search rules)
+    (λ c. search rules) same_length returns-4 returns-5)

@@ -1,9 +1,5 @@
 -- `sheets::lines::spread` meets its contract: each way out by the tests that led there. Assumes nothing.
-use native.Mathlib.Omega.{arith}
-use mathlib.Core.Path.{◌≡◌, refl, sym, ap, ◌∙◌}
-use mathlib.Core.Bool.{true, false}
-use Prim.Native.Nat.{◌+◌, ◌-◌, ◌≤◌, ◌<◌}
-use lib.ListN.{length, drop, take}
+use mathlib.Core.Path.{◌≡◌, sym, ◌∙◌}
 use borrow.Author.Rules.{rules}
 use borrow.Author.Tests.{not-true, not-false}
 use Rattle.meaning.specs.Design.{occ}
@@ -22,14 +18,16 @@ returns-2 : tie.Need-returns-then-not-freedom
 returns-2 c =
     let a = c.args in
     let f = c.word_number-freedom in
-    c.no_claim-then-not-freedom.ensures ∙ sym (spread_unfree a.line.now f.result (sym c.count.ensures.0 ∙ c.if-count-ne4.false) f.ensures (not-true _ c.if-not-freedom.true))
+    c.no_claim-then-not-freedom.ensures
+    ∙ sym (spread_unfree a.line.now f.result (sym c.count.ensures.0 ∙ c.if-count-ne4.false) f.ensures (not-true _ c.if-not-freedom.true))
 
 returns-3 : tie.Need-returns-then-word_is
 unfolding ascii
 returns-3 c =
     let a = c.args in
     let f = c.word_number-freedom in
-    sym (spread_none a.line.now f.result (sym c.count.ensures.0 ∙ c.if-count-ne4.false) f.ensures (not-false _ c.if-not-freedom.false) (sym c.word_is.ensures ∙ c.if-word_is.true))
+    sym (spread_none a.line.now f.result (sym c.count.ensures.0 ∙ c.if-count-ne4.false) f.ensures (not-false _ c.if-not-freedom.false)
+    (sym c.word_is.ensures ∙ c.if-word_is.true))
 
 returns-4 : tie.Need-returns-then-not-hundredths
 unfolding ascii
@@ -50,4 +48,9 @@ returns-5 c =
     (sym c.word_is.ensures ∙ c.if-word_is.false) k.ensures (not-false _ c.if-not-freedom.false) (not-false _ c.if-not-hundredths.false))
 
 pub spread_spec : {M : Type 1} → statement M
-spread_spec = tie.close (tie.spec (λ c κs. search rules) (λ c κs. search rules) returns (λ c κs. search rules) (λ c κs. search rules) returns-2 (λ c. search rules) (λ c κs. search rules) returns-3 (λ c κs. search rules) (λ c κs. search rules) returns-4 returns-5)
+spread_spec =
+    tie.close
+    (tie.spec
+    (λ c κs. search rules) (λ c κs. search rules) returns (λ c κs. search rules) (λ c κs. search rules)
+    returns-2 (λ c κs. search rules) returns-3 (λ c κs. search rules) (λ c κs. search rules) returns-4
+    returns-5)

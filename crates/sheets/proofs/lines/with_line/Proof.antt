@@ -1,11 +1,6 @@
 -- `sheets::lines::with_line` meets its contract: by the first word of the line. Assumes nothing.
-use native.Mathlib.Omega.{arith}
-use mathlib.Core.Path.{◌≡◌, refl, sym, ap, ◌∙◌}
-use mathlib.Core.Bool.{true, false}
-use Prim.Native.Nat.{◌+◌, ◌-◌, ◌≤◌, ◌<◌}
-use lib.ListN.{length, drop, take}
+use mathlib.Core.Path.{sym, ◌∙◌}
 use borrow.Author.Rules.{rules}
-use borrow.Author.Tests.{not-true, not-false}
 use Rattle.meaning.specs.Text.{ascii}
 use Rattle.sheets.proofs.lines.Cases.{line_after, line-value, line-spread, line_other}
 use Rattle.sheets.proofs.lines.with_line.Statement.{statement}
@@ -39,4 +34,8 @@ returns-4 c =
     (sym c.word_is-2.ensures ∙ c.if-word_is-2.false))
 
 pub with_line_spec : {M : Type 1} → statement M
-with_line_spec = tie.close (tie.spec returns (λ c. search rules) (λ c κs. search rules) (λ c κs. search rules) returns-2 (λ c. search rules) (λ c κs. search rules) (λ c κs. search rules) returns-3 returns-4)
+with_line_spec =
+    tie.close
+    (tie.spec
+    returns (λ c κs. search rules) (λ c κs. search rules) returns-2 (λ c κs. search rules)
+    (λ c κs. search rules) returns-3 returns-4)

@@ -1,6 +1,6 @@
 -- `sheets::numerals::begins_with_minus` meets its contract: a word with no byte begins with none. Assumes nothing.
 use native.Mathlib.Omega.{arith}
-use mathlib.Core.Path.{◌≡◌, sym, ap}
+use mathlib.Core.Path.{sym, ap}
 use lib.ListN.{get_or-eq_default}
 use lib.Dec.{eqb}
 use borrow.Author.Rules.{rules}

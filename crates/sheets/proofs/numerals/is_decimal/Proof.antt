@@ -34,4 +34,8 @@ returns-2 c =
     decimal-plain w (sym c.begins_with_minus.ensures ∙ c.if-begins_with_minus.false) c.is_digits-2.result c.is_digits-2.ensures
 
 pub is_decimal_spec : {M : Type 1} → statement M
-is_decimal_spec = tie.close (tie.spec (λ c κs. search rules) sub_is_digits part_is_digits_start (λ c. search rules) (λ c κs. search rules) returns (λ c κs. search rules) returns-2)
+is_decimal_spec =
+    tie.close
+    (tie.spec
+    (λ c κs. search rules) sub_is_digits part_is_digits_start (λ c. search rules) (λ c κs. search rules)
+    returns (λ c κs. search rules) returns-2)

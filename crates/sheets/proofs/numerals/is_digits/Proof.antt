@@ -1,6 +1,6 @@
 -- `sheets::numerals::is_digits` meets its contract: what is asked of the word is asked of the bytes that are left. Assumes nothing.
 use native.Mathlib.Omega.{arith}
-use mathlib.Core.Path.{◌≡◌, refl, sym, ◌∙◌}
+use mathlib.Core.Path.{◌≡◌, refl, ◌∙◌}
 use Prim.Native.Nat.{◌-◌, ◌≤◌, ◌<◌}
 use lib.ListN.{length, drop, get_or}
 use borrow.Author.Rules.{rules}
@@ -49,4 +49,8 @@ returns-3 c =
     search (in_digits_lem w l.i end (l.invariant.1 ∙ digital-end w l.i end))
 
 pub is_digits_spec : {M : Type 1} → statement M
-is_digits_spec = tie.close (tie.spec invariant-loop decreases-loop loop-holds (λ c. search rules) returns returns-2 (λ c. search rules) (λ c. search rules) loop-again returns-3)
+is_digits_spec =
+    tie.close
+    (tie.spec
+    invariant-loop decreases-loop loop-holds (λ c. search rules) returns returns-2 (λ c. search rules)
+    (λ c. search rules) loop-again returns-3)

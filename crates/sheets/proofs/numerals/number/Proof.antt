@@ -1,6 +1,6 @@
 -- `sheets::numerals::number` meets its contract: what is asked of the word is asked of the digits that are left, after the number so far. Assumes nothing.
 use native.Mathlib.Omega.{arith}
-use mathlib.Core.Path.{◌≡◌, refl, sym, ap, ◌∙◌}
+use mathlib.Core.Path.{◌≡◌, refl, sym, ◌∙◌}
 use Prim.Native.Nat.{◌+◌, ◌*◌, ◌-◌, ◌≤◌, ◌<◌}
 use lib.ListN.{length, drop, get_or}
 use borrow.Author.Rules.{rules}

@@ -1,12 +1,12 @@
 -- `sheets::numerals::signed` meets its contract: a minus, and the number behind it, or the number. Assumes nothing.
 use native.Mathlib.Omega.{arith}
-use mathlib.Core.Path.{◌≡◌, refl, sym, ap, ◌∙◌}
-use Prim.Native.Nat.{◌+◌, ◌-◌, ◌≤◌, ◌<◌}
-use lib.ListN.{length, drop, take}
+use mathlib.Core.Path.{◌≡◌, sym, ap, ◌∙◌}
+use Prim.Native.Nat.{◌≤◌}
+use lib.ListN.{length}
 use mir.Syntax.{w64}
 use mir.ValLaws.{to_z-of_z}
 use borrow.Author.Rules.{rules}
-use mathlib.Core.Bool.{true, false}
+use mathlib.Core.Bool.{true}
 use lib.Dec.{eqb}
 use lib.ListN.{get_or}
 use Rattle.meaning.specs.SheetText.{number_of}
@@ -48,4 +48,8 @@ returns-2 c =
     signed-plain w c.number-above.result (sym c.begins_with_minus.ensures ∙ c.if-begins_with_minus.false) c.number-above.ensures
 
 pub signed_spec : {M : Type 1} → statement M
-signed_spec = tie.close (tie.spec (λ c κs. search rules) sub_number part_number_start (λ c. search rules) (λ c κs. search rules) opposite_requires returns (λ c κs. search rules) cast_t10 returns-2)
+signed_spec =
+    tie.close
+    (tie.spec
+    (λ c κs. search rules) sub_number part_number_start (λ c. search rules) (λ c κs. search rules)
+    opposite_requires returns (λ c κs. search rules) cast_t10 returns-2)

@@ -1,13 +1,10 @@
 -- `sheets::pieces::next_piece` meets its contract: what is asked from a place on is asked of the bytes that are left. Assumes nothing.
 use native.Mathlib.Omega.{arith}
-use mathlib.Core.Path.{◌≡◌, refl, sym, ap, ◌∙◌}
-use mathlib.Core.Logic.{⊎_elim}
-use Prim.Native.Nat.{◌+◌, ◌-◌, ◌≤◌, ◌<◌}
+use mathlib.Core.Path.{◌≡◌, refl, sym, ◌∙◌}
+use Prim.Native.Nat.{◌-◌, ◌≤◌, ◌<◌}
 use lib.ListN.{length, drop}
-use lib.Dec.{eqb}
 use borrow.Author.Rules.{rules}
-use Rattle.meaning.specs.Design.{occ}
-use Rattle.meaning.specs.SheetText.{before, after, rest, same}
+use Rattle.meaning.specs.SheetText.{after}
 use Rattle.sheets.proofs.pieces.Steps.{after-here, after-later, after_none}
 use Rattle.sheets.proofs.pieces.next_piece.Statement.{statement}
 use Rattle.sheets.proofs.pieces.next_piece.Tie as tie
@@ -43,5 +40,9 @@ returns-2 c =
     (sym (l.invariant.1 ∙ after_none s _ l.i end), omega arith)
 
 pub next_piece_spec : {M : Type 1} → statement M
-next_piece_spec = tie.close (tie.spec invariant-loop decreases-loop loop-holds (λ c. search rules) (λ c. search rules) returns (λ c. search rules) (λ c. search rules)
+next_piece_spec =
+    tie.close
+    (tie.spec
+    invariant-loop decreases-loop loop-holds (λ c. search rules) (λ c. search rules) returns
+    (λ c. search rules) (λ c. search rules)
     loop-again returns-2)

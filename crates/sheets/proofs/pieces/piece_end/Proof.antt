@@ -1,13 +1,10 @@
 -- `sheets::pieces::piece_end` meets its contract: the bytes passed and those before the next one sought. Assumes nothing.
 use native.Mathlib.Omega.{arith}
-use mathlib.Core.Path.{◌≡◌, refl, sym, ap, ◌∙◌}
-use mathlib.Core.Logic.{⊎_elim}
+use mathlib.Core.Path.{◌≡◌, refl, ap}
 use Prim.Native.Nat.{◌+◌, ◌-◌, ◌≤◌, ◌<◌}
 use lib.ListN.{length, drop}
-use lib.Dec.{eqb}
 use borrow.Author.Rules.{rules}
-use Rattle.meaning.specs.Design.{occ}
-use Rattle.meaning.specs.SheetText.{before, after, rest, same}
+use Rattle.meaning.specs.SheetText.{before}
 use Rattle.sheets.proofs.pieces.Steps.{before_here, before-later, before-none}
 use Rattle.sheets.proofs.pieces.piece_end.Statement.{statement}
 use Rattle.sheets.proofs.pieces.piece_end.Tie as tie
@@ -45,4 +42,8 @@ returns-2 c =
     (omega (arith, none, l.invariant.1), omega arith)
 
 pub piece_end_spec : {M : Type 1} → statement M
-piece_end_spec = tie.close (tie.spec invariant-loop decreases-loop loop-holds (λ c. search rules) returns (λ c. search rules) (λ c. search rules) loop-again returns-2)
+piece_end_spec =
+    tie.close
+    (tie.spec
+    invariant-loop decreases-loop loop-holds (λ c. search rules) returns (λ c. search rules)
+    (λ c. search rules) loop-again returns-2)

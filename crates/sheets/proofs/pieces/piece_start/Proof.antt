@@ -1,7 +1,7 @@
 -- `sheets::pieces::piece_start` meets its contract: after i steps it stands behind the first i pieces. Assumes nothing.
 use native.Mathlib.Omega.{arith}
-use mathlib.Core.Path.{◌≡◌, refl, sym, ap, ◌∙◌}
-use Prim.Native.Nat.{◌+◌, ◌-◌, ◌≤◌, ◌<◌}
+use mathlib.Core.Path.{◌≡◌, refl, ap, ◌∙◌}
+use Prim.Native.Nat.{◌-◌, ◌≤◌}
 use native.Mathlib.Numerals.{add-one}
 use lib.ListN.{length, drop}
 use borrow.Author.Rules.{rules}
@@ -34,4 +34,8 @@ returns c =
     (l.invariant.2 ∙ ap (λ i. rest a.byte i a.bytes.now) e, l.invariant.1)
 
 pub piece_start_spec : {M : Type 1} → statement M
-piece_start_spec = tie.close (tie.spec invariant-loop decreases-loop loop-holds (λ c κs. search rules) (λ c. search rules) (λ c. search rules) loop-again returns)
+piece_start_spec =
+    tie.close
+    (tie.spec
+    invariant-loop decreases-loop loop-holds (λ c κs. search rules) (λ c. search rules) (λ c. search rules)
+    loop-again returns)

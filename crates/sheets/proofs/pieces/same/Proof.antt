@@ -1,13 +1,10 @@
 -- `sheets::pieces::same` meets its contract: what is asked of two texts is asked of what is left of both. Assumes nothing.
 use native.Mathlib.Omega.{arith}
-use mathlib.Core.Path.{◌≡◌, refl, sym, ap, ◌∙◌}
-use mathlib.Core.Logic.{⊎_elim}
-use Prim.Native.Nat.{◌+◌, ◌-◌, ◌≤◌, ◌<◌}
+use mathlib.Core.Path.{◌≡◌, refl, sym, ◌∙◌}
+use Prim.Native.Nat.{◌-◌, ◌≤◌, ◌<◌}
 use lib.ListN.{length, drop}
-use lib.Dec.{eqb}
 use borrow.Author.Rules.{rules}
-use Rattle.meaning.specs.Design.{occ}
-use Rattle.meaning.specs.SheetText.{before, after, rest, same}
+use Rattle.meaning.specs.SheetText.{same}
 use Rattle.sheets.proofs.pieces.Steps.{same-short, same-other, same-later, same_end}
 use Rattle.sheets.proofs.pieces.same.Statement.{statement}
 use Rattle.sheets.proofs.pieces.same.Tie as tie
@@ -50,5 +47,9 @@ returns-3 c =
     search (sym (l.invariant.2 ∙ same_end a.a.now a.b.now l.i end (omega arith)))
 
 pub same_spec : {M : Type 1} → statement M
-same_spec = tie.close (tie.spec invariant-loop decreases-loop loop-holds returns (λ c. search rules) (λ c. search rules) returns-2 (λ c. search rules) (λ c. search rules)
+same_spec =
+    tie.close
+    (tie.spec
+    invariant-loop decreases-loop loop-holds returns (λ c. search rules) (λ c. search rules) returns-2
+    (λ c. search rules) (λ c. search rules)
     loop-again returns-3)

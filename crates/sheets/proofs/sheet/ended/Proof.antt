@@ -1,9 +1,5 @@
 -- `sheets::sheet::ended` meets its contract: by whether a line could not be read, and whether there was a spread. Assumes nothing.
-use native.Mathlib.Omega.{arith}
-use mathlib.Core.Path.{◌≡◌, refl, sym, ap, ap₂, ◌∙◌}
-use mathlib.Core.Bool.{true, false}
-use Prim.Native.Nat.{◌+◌, ◌-◌, ◌≤◌, ◌<◌}
-use lib.ListN.{length, drop, take}
+use mathlib.Core.Path.{sym, ◌∙◌}
 use borrow.Author.Rules.{rules}
 use Rattle.sheets.proofs.lines.Cases.{ended-unread, ended-read, ended_missing}
 use Rattle.sheets.proofs.sheet.ended.Statement.{statement}

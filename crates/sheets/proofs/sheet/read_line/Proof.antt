@@ -1,9 +1,6 @@
 -- `sheets::sheet::read_line` meets its contract: what is put and what is read go by the same line and what was read before it. Assumes nothing.
-use native.Mathlib.Omega.{arith}
-use mathlib.Core.Path.{◌≡◌, refl, sym, ap, ap₂, ◌∙◌}
-use mathlib.Core.Bool.{true, false}
-use Prim.Native.Nat.{◌+◌, ◌-◌, ◌≤◌, ◌<◌}
-use lib.ListN.{length, drop, take}
+use mathlib.Core.Path.{ap, ◌∙◌}
+use lib.ListN.{length}
 use borrow.Author.Rules.{rules}
 use Rattle.meaning.specs.SheetText.{added}
 use Rattle.sheets.proofs.sheet.Lines.{put-long}

@@ -1,8 +1,7 @@
 -- `sheets::sheet::read_lines` meets its contract: after k lines, what is read of the first k and their claims, at the start of line k. Assumes nothing.
 use native.Mathlib.Omega.{arith}
-use mathlib.Core.Path.{◌≡◌, refl, sym, ap, ap₂, ◌∙◌}
-use mathlib.Core.Bool.{true, false}
-use Prim.Native.Nat.{◌+◌, ◌-◌, ◌≤◌, ◌<◌}
+use mathlib.Core.Path.{◌≡◌, refl, ap, ap₂, ◌∙◌}
+use Prim.Native.Nat.{◌+◌, ◌-◌, ◌≤◌}
 use lib.ListN.{length, drop, take}
 use borrow.Author.Rules.{rules}
 use native.Mathlib.Numerals.{add-one}
@@ -71,4 +70,9 @@ returns c =
     (l.invariant.4 ∙ ap (λ k. read_to k s) e, l.invariant.5 ∙ ap (λ k. laid (claims_to k s) a.claims.now) e)
 
 pub read_lines_spec : {M : Type 1} → statement M
-read_lines_spec = tie.close (tie.spec invariant-loop decreases-loop (λ c κs. search rules) loop-holds (λ c κs. search rules) (λ c. search rules) (λ c. search rules) (λ c. search rules) (λ c. search rules) read_line_requires (λ c κs. search rules) (λ c. search rules) (λ c. search rules) loop-again same_length returns)
+read_lines_spec =
+    tie.close
+    (tie.spec
+    invariant-loop decreases-loop (λ c κs. search rules) loop-holds (λ c κs. search rules) (λ c. search rules)
+    (λ c. search rules) (λ c. search rules) (λ c. search rules) read_line_requires (λ c κs. search rules)
+    (λ c. search rules) (λ c. search rules) loop-again same_length returns)

@@ -1,11 +1,9 @@
 -- `sheets::sheet::read_sheet` meets its contract: a text that is too long is no sheet; any other is read to its last line. Assumes nothing.
 use native.Mathlib.Omega.{arith}
-use mathlib.Core.Path.{◌≡◌, refl, sym, ap, ap₂, ◌∙◌}
-use mathlib.Core.Bool.{true, false}
-use Prim.Native.Nat.{◌+◌, ◌-◌, ◌≤◌, ◌<◌}
-use lib.ListN.{length, drop, take}
+use mathlib.Core.Path.{◌≡◌, ap, ◌∙◌}
+use Prim.Native.Nat.{◌+◌, ◌≤◌, ◌<◌}
+use lib.ListN.{length}
 use borrow.Author.Rules.{rules}
-use Rattle.meaning.specs.Design.{occ}
 use Rattle.meaning.specs.SheetText.{lines_of, read_to, claims_to, ended, laid}
 use Rattle.sheets.proofs.sheet.Lines.{long-read, long-laid, short-read, short-claims}
 use Rattle.algebra.proofs.Filling.{length_over}
@@ -36,4 +34,8 @@ returns-2 c =
     )
 
 pub read_sheet_spec : {M : Type 1} → statement M
-read_sheet_spec = tie.close (tie.spec (λ c κs. search rules) returns (λ c κs. search rules) (λ c. search rules) (λ c κs. search rules) (λ c κs. search rules) same_length returns-2)
+read_sheet_spec =
+    tie.close
+    (tie.spec
+    (λ c κs. search rules) returns (λ c κs. search rules) (λ c. search rules) (λ c κs. search rules)
+    (λ c κs. search rules) same_length returns-2)

@@ -1,8 +1,5 @@
 -- `sheets::words::word_is` meets its contract: from the start of word k to its end stands the word. Assumes nothing.
-use native.Mathlib.Omega.{arith}
-use mathlib.Core.Path.{◌≡◌, refl, sym, ap, ◌∙◌}
-use Prim.Native.Nat.{◌+◌, ◌-◌, ◌≤◌, ◌<◌}
-use lib.ListN.{length, drop, take}
+use mathlib.Core.Path.{ap, ◌∙◌}
 use borrow.Author.Rules.{rules}
 use Rattle.meaning.specs.SheetText.{same}
 use Rattle.sheets.proofs.pieces.Steps.{piece-part}
@@ -17,4 +14,8 @@ returns c =
     c.same.ensures ∙ ap (λ w. same w a.text.now) (piece-part 32 a.line.now a.k start.result end.result start.ensures.0 end.ensures.0)
 
 pub word_is_spec : {M : Type 1} → statement M
-word_is_spec = tie.close (tie.spec (λ c κs. search rules) (λ c κs. search rules) (λ c. search rules) (λ c. search rules) (λ c. search rules) (λ c κs. search rules) returns)
+word_is_spec =
+    tie.close
+    (tie.spec
+    (λ c κs. search rules) (λ c κs. search rules) (λ c. search rules) (λ c. search rules) (λ c. search rules)
+    (λ c κs. search rules) returns)

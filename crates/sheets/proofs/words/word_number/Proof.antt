@@ -1,8 +1,5 @@
 -- `sheets::words::word_number` meets its contract: from the start of word k to its end stands the word. Assumes nothing.
-use native.Mathlib.Omega.{arith}
-use mathlib.Core.Path.{◌≡◌, refl, sym, ap, ◌∙◌}
-use Prim.Native.Nat.{◌+◌, ◌-◌, ◌≤◌, ◌<◌}
-use lib.ListN.{length, drop, take}
+use mathlib.Core.Path.{ap, ◌∙◌}
 use borrow.Author.Rules.{rules}
 use Rattle.meaning.specs.SheetText.{number_of}
 use Rattle.sheets.proofs.pieces.Steps.{piece-part}
@@ -17,4 +14,8 @@ returns c =
     c.number.ensures ∙ ap (number_of 18446744073709551615) (piece-part 32 a.line.now a.k start.result end.result start.ensures.0 end.ensures.0)
 
 pub word_number_spec : {M : Type 1} → statement M
-word_number_spec = tie.close (tie.spec (λ c κs. search rules) (λ c κs. search rules) (λ c. search rules) (λ c. search rules) (λ c. search rules) (λ c κs. search rules) returns)
+word_number_spec =
+    tie.close
+    (tie.spec
+    (λ c κs. search rules) (λ c κs. search rules) (λ c. search rules) (λ c. search rules) (λ c. search rules)
+    (λ c κs. search rules) returns)

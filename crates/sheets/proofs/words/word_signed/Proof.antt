@@ -1,8 +1,5 @@
 -- `sheets::words::word_signed` meets its contract: from the start of word k to its end stands the word. Assumes nothing.
-use native.Mathlib.Omega.{arith}
-use mathlib.Core.Path.{◌≡◌, refl, sym, ap, ◌∙◌}
-use Prim.Native.Nat.{◌+◌, ◌-◌, ◌≤◌, ◌<◌}
-use lib.ListN.{length, drop, take}
+use mathlib.Core.Path.{ap, ◌∙◌}
 use borrow.Author.Rules.{rules}
 use Rattle.meaning.specs.SheetText.{signed_of}
 use Rattle.sheets.proofs.pieces.Steps.{piece-part}
@@ -17,4 +14,8 @@ returns c =
     c.signed.ensures ∙ ap signed_of (piece-part 32 a.line.now a.k start.result end.result start.ensures.0 end.ensures.0)
 
 pub word_signed_spec : {M : Type 1} → statement M
-word_signed_spec = tie.close (tie.spec (λ c κs. search rules) (λ c κs. search rules) (λ c. search rules) (λ c. search rules) (λ c. search rules) (λ c κs. search rules) returns)
+word_signed_spec =
+    tie.close
+    (tie.spec
+    (λ c κs. search rules) (λ c κs. search rules) (λ c. search rules) (λ c. search rules) (λ c. search rules)
+    (λ c κs. search rules) returns)

@@ -4,7 +4,36 @@
 --     reading_small               a reading that is drawn is an i32
 --     knows, drawn, true-sum      of an accepted practice
 -- Assumes nothing.
-use Rattle.std.proofs.Common.{◌≡◌, ℕ, zero, suc, ◌+◌, ◌*◌, ◌^◌, ◌<◌, ◌≤◌, List, length, get_or, ℤ, pos, ◌+ℤ◌, ◌-ℤ◌, ◌*ℤ◌, nat_abs, sym, refl, ap, ◌∙◌, le_trans, lt_of_le_of_lt, arith, lit<, w32, SFits}
+use Rattle.std.proofs.Common.{
+  ◌≡◌,
+  ℕ,
+  zero,
+  suc,
+  ◌+◌,
+  ◌*◌,
+  ◌^◌,
+  ◌<◌,
+  ◌≤◌,
+  List,
+  length,
+  get_or,
+  ℤ,
+  pos,
+  ◌+ℤ◌,
+  ◌-ℤ◌,
+  ◌*ℤ◌,
+  nat_abs,
+  sym,
+  refl,
+  ap,
+  ◌∙◌,
+  le_trans,
+  lt_of_le_of_lt,
+  arith,
+  lit<,
+  w32,
+  SFits,
+}
 use native.Mathlib.Numerals.{unary_clauses}
 use Rattle.algebra.specs.Ranges.{sum}
 use Rattle.algebra.proofs.Bounds.{mag_abs, abs_between, abs-+, abs-*-le, abs_sum}

@@ -1,7 +1,7 @@
 -- An accepted job keeps what is said of its standard uncertainties, and every file what is said of its certificate. Assumes nothing.
-use mathlib.Core.Path.{◌≡◌, refl, sym, ap, ◌∙◌}
+use mathlib.Core.Path.{◌≡◌, refl, ap}
 use mathlib.Core.List.{List}
-use Prim.Native.Nat.{ℕ, zero, suc, ◌+◌, ◌-◌, ◌*◌, ◌^◌, ◌≤◌, ◌<◌}
+use Prim.Native.Nat.{ℕ, zero, suc, ◌-◌, ◌*◌, ◌^◌, ◌≤◌, ◌<◌}
 use native.Mathlib.Nat.{mul-pos, lt_trans}
 use native.Mathlib.Omega.{arith}
 use lib.Dec.{ltb, lit<}
@@ -136,8 +136,8 @@ unfolding uncertainty_of
 columns_stand j e s at i l =
     let g = good j e in
     let x = published j.head j.initial j.readings j.set j.sum i in
-    line-wide i (name_from s at i) (member j.set i) x (stated_with (u j i) (freedom j.head)) (omega (arith, g.measures.design.sizes.objects-most)) (named_few s at i)
-    (omega (arith, published-most j.head j.initial j.readings j.set j.sum g i))
+    line-wide i (name_from s at i) (member j.set i) x (stated_with (u j i) (freedom j.head))
+    (omega (arith, g.measures.design.sizes.objects-most)) (named_few s at i) (omega (arith, published-most j.head j.initial j.readings j.set j.sum g i))
     (stated-few (u j i) (freedom j.head) (λ f. hundredths-small _ _ _ _ _ (range j e i) f))
 
 pub uncertainty_refused : (j : Job) → UncertaintyRefused j

@@ -3,11 +3,11 @@
 use mathlib.Core.Path.{◌≡◌, refl}
 use mathlib.Core.Bool.{Bool, true, false, cond, not, ◌&&◌}
 use mathlib.Core.List.{List, [], ◌∷◌, ◌++◌}
-use Prim.Native.Nat.{ℕ, zero, suc, ◌+◌, ◌-◌, ◌*◌, ◌/◌, ◌%◌, ◌^◌, ◌≤◌, ◌<◌}
+use Prim.Native.Nat.{ℕ, zero, suc, ◌-◌, ◌*◌, ◌/◌, ◌^◌, ◌≤◌, ◌<◌}
 use native.Mathlib.Omega.{arith}
 use lib.Dec.{eqb, ltb}
 use lib.IntN.{ℤ, pos, negsuc, nat_abs, ◌*ℤ◌}
-use lib.ListN.{length, take, drop, length-append, length-take}
+use lib.ListN.{length, length-append, length-take}
 use Rattle.records.specs.declared.Head.{Head}
 use Rattle.records.specs.declared.Parameters.{Parameters}
 use Rattle.records.specs.declared.Spread.{Spread}
@@ -18,7 +18,7 @@ use Rattle.meaning.specs.Design.{objects, parameters_of}
 use Rattle.meaning.specs.Analysis.{member, restrained}
 use Rattle.meaning.specs.Publishing.{published}
 use Rattle.meaning.specs.Calls.{spreading_of}
-use Rattle.meaning.specs.Text.{ascii, digits, hex_text, escaped_byte, escaped, trimmed, name_text, each}
+use Rattle.meaning.specs.Text.{ascii, digits, hex_text, escaped, trimmed, name_text, each}
 use Rattle.laws.proofs.Lengths.{spaced-length, spaced-most, each-length}
 use Rattle.meaning.specs.Certificate.{
   spaces,

@@ -5,7 +5,6 @@ use mathlib.Core.Path.{◌≡◌, sym, ◌∙◌, ap}
 use Prim.Native.Nat.{ℕ}
 use Rattle.algebra.proofs.Groups.{less, less-closed, reaches}
 use Rattle.records.specs.declared.Head.{Head}
-use Rattle.records.specs.declared.Judged.{Judged}
 use Rattle.records.specs.declared.Parameters.{Parameters}
 use Rattle.meaning.specs.Design.{plus, balanced, parameters_of}
 use Rattle.meaning.specs.Refusals.{accepted, refused}

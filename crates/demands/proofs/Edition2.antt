@@ -13,11 +13,44 @@ use Rattle.records.specs.declared.Verdict.TheVariants.{Accepted, Refused}
 use Rattle.meaning.specs.Refusals.{accepted, test, ◌⨾◌, room}
 use Rattle.meaning.specs.File.{big, field_verdict, fields, read_verdict}
 use Rattle.meaning.specs.Text.{text_under, text_of}
-use Rattle.meaning.specs.Edition2.{file_limit2, edition, four_of, moved_on, names_tag, optional_at, optional_verdict, optionals, optional_fields, names_at, fields2, read_verdict2, text_of2, put_answer, put_after, second_of, to_second_verdict, to_second_after, to_first_verdict}
+use Rattle.meaning.specs.Edition2.{
+  file_limit2,
+  edition,
+  four_of,
+  moved_on,
+  names_tag,
+  optional_at,
+  optional_verdict,
+  optionals,
+  optional_fields,
+  names_at,
+  fields2,
+  read_verdict2,
+  text_of2,
+  put_answer,
+  put_after,
+  second_of,
+  to_second_verdict,
+  to_second_after,
+  to_first_verdict,
+}
 use Rattle.laws.proofs.Chains.{opened, held, accepts, test_yes, given_no}
 use Rattle.laws.proofs.Writing.{one-file}
 use Rattle.laws.proofs.Edition2.Optionals.{over, one}
-use Rattle.laws.proofs.Edition2.{four-part, four-inside, four-second, whole, file_job2, optionals-end, Optionals, optional-fields, to-second, second-text, to-first, first-reader}
+use Rattle.laws.proofs.Edition2.{
+  four-part,
+  four-inside,
+  four-second,
+  whole,
+  file_job2,
+  optionals-end,
+  Optionals,
+  optional-fields,
+  to-second,
+  second-text,
+  to-first,
+  first-reader,
+}
 use Rattle.demands.proofs.FourFields.{four_places}
 use Rattle.demands.specs.Job.{job_in}
 use Rattle.demands.specs.Edition2.{in_second, in_first, objects_in, name_of, optionals_from, Rising, FirstEdition, SecondEdition}

@@ -12,7 +12,7 @@ use lib.ListN.{length, get_or, take, drop}
 use borrow.Author.Tests.{ne_eqb, ltb-true, le-leb, lt-leb}
 use Rattle.algebra.proofs.Tests.{first-before}
 use Rattle.records.specs.declared.Head.{Head}
-use Rattle.meaning.specs.Design.{by_field, field_prime, sized, occ, digit_sum, plus, moved, left, right}
+use Rattle.meaning.specs.Design.{by_field, field_prime, occ, digit_sum, plus, moved, left, right}
 use Rattle.meaning.specs.Refusals.{refused, sizes, test, in_range, offends, offender, clean}
 use Rattle.meaning.proofs.Addition.{plus_group}
 use Rattle.laws.specs.Fits.{Fits}

@@ -28,7 +28,6 @@ use Rattle.meaning.specs.Groups.{
   counts_of,
   partially_balanced,
   list_sized,
-  strays,
   list_verdict,
   grouped_verdict,
   grouped_answer,

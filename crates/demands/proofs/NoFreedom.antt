@@ -10,7 +10,7 @@ use native.Mathlib.Omega.{arith}
 use lib.IntN.{ℤ, pos, ◌+ℤ◌, ◌-ℤ◌, ◌*ℤ◌}
 use lib.ListN.{length, take}
 use lib.Seq.{take-length}
-use Rattle.algebra.specs.Ranges.{sum, sum_ℕ}
+use Rattle.algebra.specs.Ranges.{sum}
 use Rattle.algebra.proofs.Solver.{◌⊕◌, ◌⊗◌, ◌⊝◌, #, ◌≐◌, ring₁, ring₂}
 use Rattle.algebra.proofs.Order.{pos_inj, comb₁}
 use Rattle.algebra.proofs.Sums.{sum_cong, sum_scale_r, sum_only, sum-zero, sum_sq_zero, pos_sum}

@@ -39,7 +39,7 @@ use Rattle.meaning.specs.File.{
   read_verdict,
   solve_verdict,
 }
-use Rattle.laws.proofs.Chains.{refused_is_not, opened, refused_stays}
+use Rattle.laws.proofs.Chains.{refused_is_not, opened}
 use Rattle.laws.proofs.Files.{filed, numbers-long}
 use Rattle.demands.specs.Job.{job_in, v, b}
 use Rattle.demands.specs.Refusals.{
@@ -99,7 +99,8 @@ module _ (s : List ℕ) where
 
   -- after the fields 5, 6, 7, 11, 8
   abbrev then : Verdict → Verdict
-  then a = a ⨾ test (blocks_clean (job_in s)) 5 (blocks_at + offender (head_of s) (blocks_of s)) ⨾ six (job_in s) ⨾ test (restraint_fits (job_in s)) 7 (third_at s)
+  then a = a ⨾ test (blocks_clean (job_in s)) 5 (blocks_at + offender (head_of s) (blocks_of s)) ⨾ six (job_in s)
+      ⨾ test (restraint_fits (job_in s)) 7 (third_at s)
       ⨾ test (two_standards (job_in s)) 11 (third_at s)
       ⨾ test (readings_fit (job_in s)) 8 (readings_at s + 4 * far_reading (readings_of s))
 

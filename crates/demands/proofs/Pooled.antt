@@ -3,7 +3,7 @@
 use Prim.Native.Nat.{ℕ, zero, suc, ◌+◌, ◌*◌, ◌^◌, ◌≤◌, ◌<◌}
 use mathlib.Core.Path.{◌≡◌, refl, sym, ap, ap₂, subst, ◌∙◌}
 use mathlib.Core.Bool.{Bool, true, false, cond, ◌&&◌}
-use mathlib.Core.List.{List, [], ◌∷◌, ◌++◌, map}
+use mathlib.Core.List.{List, [], ◌∷◌, ◌++◌}
 use native.Mathlib.Nat.{lt_trans}
 use native.Mathlib.Omega.{arith}
 use borrow.Author.Tests.{eqb-true, eq-eqb, ne_eqb, leb-true, le-leb, ltb-true, lt-ltb}
@@ -14,10 +14,8 @@ use lib.Seq.{take-append_seam, drop-append_seam}
 use Rattle.algebra.proofs.Tests.{and_left, and_right, and_both}
 use Rattle.records.specs.declared.Pooled.{Pooled}
 use Rattle.records.specs.declared.Spreading.{Spreading}
-use Rattle.records.specs.declared.Spread.{Spread}
 use Rattle.records.specs.declared.Spread.TheVariants.{Of, None}
 use Rattle.records.specs.declared.Verdict.{Verdict}
-use Rattle.records.specs.declared.Verdict.TheVariants.{Accepted, Refused}
 use Rattle.meaning.specs.Analysis.{spread_hundredths, spread_hundredths_of}
 use Rattle.meaning.specs.Wide.{value, wide}
 use Rattle.meaning.specs.Publishing.{float, spread_of}
@@ -62,7 +60,6 @@ use Rattle.demands.specs.Pooled.{
   one_job,
   Each,
   Good,
-  Alike,
   Reordered,
   untouched,
   keep,
@@ -234,7 +231,8 @@ reads s e =
     accepts (accepts (accepts j.0 a.0) a.1) c.1
 
 one : (s : List ℕ) → Good s → one_job s ≡ spreading_of (head_of s) (blocks_of s) (readings_of s)
-one s e = given_yes (readings_verdict (head_of s) (blocks_of s) (readings_of s)) (spreading_of (head_of s) (blocks_of s) (readings_of s)) no_spreading (reads s e)
+one s e = given_yes (readings_verdict (head_of s) (blocks_of s) (readings_of s)) (spreading_of (head_of s) (blocks_of s) (readings_of s)) no_spreading
+    (reads s e)
 
 module _ (s : List ℕ) (e : Good s) where
   one_q : value (one_job s).q ≡ qIn s

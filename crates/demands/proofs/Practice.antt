@@ -10,14 +10,12 @@ use lib.Seq.{take_at, drop_at}
 use Rattle.algebra.specs.Buffers.{over}
 use Rattle.algebra.proofs.Filling.{over_ext}
 use Rattle.algebra.proofs.Solver.{◌⊗◌, #, ◌≐◌, ring₁}
-use Rattle.records.specs.declared.Head.{Head}
 use Rattle.records.specs.declared.Verdict.{Verdict}
 use Rattle.records.specs.declared.Verdict.TheVariants.{Accepted, Refused}
 use Rattle.meaning.specs.Design.{blocks, left, right}
 use Rattle.meaning.specs.Analysis.{reading, along, difference, deviation_of, qOf, spread_hundredths_of}
 use Rattle.meaning.specs.Fractions.{◌=ᶠ◌, whole}
 use Rattle.meaning.specs.Refusals.{accepted, ◌⨾◌}
-use Rattle.meaning.specs.Calls.{given}
 use Rattle.meaning.specs.Writing.{file_of, file_length, ReadsAs}
 use Rattle.meaning.specs.Practice.{
   step,
@@ -26,7 +24,6 @@ use Rattle.meaning.specs.Practice.{
   near,
   practised,
   practice_reading,
-  practice_readings,
   practice_verdict,
   practice_after,
   practice_file_verdict,
@@ -49,7 +46,7 @@ use Rattle.laws.proofs.Practice.{
   true_k,
 }
 use Rattle.laws.proofs.Writing.{reads-back, file-length}
-use Rattle.demands.specs.Job.{Job, v, verdict_of, exact}
+use Rattle.demands.specs.Job.{v, verdict_of, exact}
 use Rattle.demands.specs.Refusals.{seven, eleven, ten}
 use Rattle.demands.specs.Outcomes.{WritesOnly}
 use Rattle.demands.specs.Practice.{Generator, Practice, true, practice_job, tests, PracticeReadings}

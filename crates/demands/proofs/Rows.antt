@@ -217,8 +217,8 @@ abbrev pub refusal_rows : List Row
 refusal_rows = file_rows ++ call_rows ++ room_rows
 
 pub refusal-rows : every refusal_rows ≡ true
-unfolding members field_prime sized occ digit_sum plus left right company opposition balanced offender far_reading big numbers_at slices contents job_verdict rooms field_verdict fields
-    read_verdict solve_verdict word word_at written_over sum_ℕ first_from
+unfolding members field_prime sized occ digit_sum plus left right company opposition balanced offender far_reading big numbers_at slices contents
+    job_verdict rooms field_verdict fields read_verdict solve_verdict word word_at written_over sum_ℕ first_from
 refusal-rows = refl
 
 pub spread-rows : every spread_rows ≡ true
@@ -227,8 +227,8 @@ unfolding occ field_prime digit_sum plus left right company opposition beta tota
 spread-rows = refl
 
 pub published-rows : every published_rows ≡ true
-unfolding occ field_prime digit_sum plus left right company opposition beta total members restrained numerator_of denominator_of rank shortfall published big numbers_at
-    summed values_along deviation_under squares_under sum sum_ℕ
+unfolding occ field_prime digit_sum plus left right company opposition beta total members restrained numerator_of denominator_of rank shortfall published
+    big numbers_at summed values_along deviation_under squares_under sum sum_ℕ
 published-rows = refl
 
 pub uncertainty_rows_lem : every uncertainty_rows ≡ true

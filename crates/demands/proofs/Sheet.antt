@@ -1,8 +1,7 @@
 -- What checking a sheet answers: the search for the first difference by its laws, and, where the sheet agrees, the claimed column is the published one, so that
 -- demand 3 speaks of it. Assumes nothing.
-use mathlib.Core.Bool.{Bool, true, false, cond, ◌&&◌, false≢true}
+use mathlib.Core.Bool.{Bool, true, false, cond, false≢true}
 use mathlib.Core.List.{List, [], ◌∷◌}
-use mathlib.Core.Logic.{◌↔◌}
 use mathlib.Core.Path.{◌≡◌, refl, sym, ap, ap₂, subst, ◌∙◌}
 use Prim.Native.Nat.{ℕ, zero, suc, ◌≤◌, ◌<◌}
 use native.Mathlib.Omega.{arith}
@@ -11,7 +10,6 @@ use lib.Dec.{eqb, ltb}
 use lib.Ieee.{eq}
 use lib.IntN.{ℤ, pos, ◌*ℤ◌}
 use lib.ListN.{length}
-use Rattle.algebra.specs.Ranges.{sum}
 use Rattle.algebra.proofs.Sums.{sum_cong}
 use Rattle.algebra.proofs.Tests.{and_left, and_right, and_both}
 use Rattle.records.specs.declared.Checked.{Checked}
@@ -34,10 +32,10 @@ use Rattle.laws.proofs.Occurrences.{Each, each-head, each_tail}
 use Rattle.laws.proofs.Clean.{left-objects, right-objects}
 use Rattle.laws.proofs.Files.{file-job}
 use Rattle.laws.proofs.Edition2.{file_job2}
-use Rattle.claims.proofs.Sheets.{differs-most, right-before, differs_at, all_right, first_off, against-object, against-spread}
+use Rattle.claims.proofs.Sheets.{right-before, differs_at_lem, all_right, first_off, against-object, against-spread}
 use Rattle.demands.specs.Job.{Job, job_in, v, verdict_of, exact, published, squares}
 use Rattle.demands.specs.Fractions.{distance, hundredths}
-use Rattle.demands.specs.Demand3.{hundredth, half_hundredth, excess, Member, LeastSquares}
+use Rattle.demands.specs.Demand3.{hundredth, half_hundredth, excess, LeastSquares}
 use Rattle.demands.specs.Sheet.{RightSpread, Right, claimed_values, Carried, Taken, SheetChecked, SheetOfParts, SheetOfFile, SheetOfSecond}
 use Rattle.demands.proofs.Published.{least-squares}
 
@@ -113,7 +111,7 @@ module _ (n : ℕ) (f : ℕ → ℤ) (spread : Spread) (claims : List ℤ) (clai
       go true p =
           let l = ltb-true found n p in
           let is = named_object i e l in
-          (λ o k. right-before n f claims o (omega (arith, is, k)), subst (λ (x : ℕ). claim claims x ≡ f x → ⊥) (sym is) (differs_at n f claims l))
+          (λ o k. right-before n f claims o (omega (arith, is, k)), subst (λ (x : ℕ). claim claims x ≡ f x → ⊥) (sym is) (differs_at_lem n f claims l))
       go false p = absurd (omega (arith, m, (named_spread i e (ltb-false found n p)).0))
 
   spread-differs : compared ≡ differs n → ((i : ℕ) → i < n → claim claims i ≡ f i) × (same_spread claimed spread ≡ false)

@@ -117,7 +117,8 @@ module _ (j : Job) where
         verdict ≡ accepted → WritesOnly values (values_under verdict h d y w M values) 0 (v j) (numerator_of h d y w M)
     pub published_of_all : (hundredths : List ℤ) → values_verdict h d y w M (length hundredths) ≡ accepted →
         WritesOnly hundredths (published_after h d y w M hundredths) 0 (v j) (published h d y w M)
-    pub value_of_lem : (i : ℕ) → OnAcceptance (value_verdict h d y w M i) (value_answer h d y w M i) (record { verdict = accepted; value = value_of h d y w M i })
+    pub value_of_lem : (i : ℕ) →
+        OnAcceptance (value_verdict h d y w M i) (value_answer h d y w M i) (record { verdict = accepted; value = value_of h d y w M i })
     -- `analyse`: everything at once, into three rooms
     pub analysis : (words : List ℕ) (values deviations : List ℤ) → let verdict = analyse_verdict h d y w M (length words) (length values) (length deviations) in
         verdict ≡ accepted →

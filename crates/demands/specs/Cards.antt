@@ -1,9 +1,9 @@
 -- CARDS. A job as a text that a person types and reads, a line for each thing; # starts a comment, blanks and empty lines are free. The card that is printed
 -- for an accepted file reads as the same head, blocks, set, sum, readings, names and other fields, for either edition; comments and spacing change nothing.
 -- `words s` are the words of a text with their places; `card_verdict s` is what is said of a card, `card_wants s` what was wanted where it cannot be read,
--- `card_file s` the file that it makes; `card_text_of s` and `card_text_of2 s` are the cards that are printed for a file of the first and of the second edition;
--- `four_of s` are the four fields of a file of the second edition, and `optional_at s` is where its optional fields start; `Bytes s` says that every entry of s is
--- below 256, as the entries of any lent bytes are. Assumes nothing.
+-- `card_file s` the file that it makes; `card_text_of s` and `card_text_of2 s` are the cards that are printed for a file of the first and of the second
+-- edition; `four_of s` are the four fields of a file of the second edition, and `optional_at s` is where its optional fields start; `Bytes s` says that every
+-- entry of s is below 256, as the entries of any lent bytes are. Assumes nothing.
 use Rattle.std.specs.Prelude.{List, [], ◌∷◌, ◌++◌, map, ◌≡◌, ℕ, ◌≤◌, ◌<◌, length, get_or}
 use Rattle.meaning.specs.Refusals.{accepted, refused, number}
 use Rattle.meaning.specs.File.{read_verdict}

@@ -91,7 +91,8 @@ pub record Certificates (s : List ℕ) : Type 0 where
   pub adds_up_second : read_verdict2 s ≡ accepted → AddsUp (job_in (four_of s))
   -- The columns stand: whatever its name, value and uncertainty are, the line of a weight has 95 characters and its end
   pub columns_stand : read_verdict s ≡ accepted → (i : ℕ) → i < v (job_in s) → length (line_of (job_in s) (name_from s 0) i) ≡ 96
-  pub columns_stand_second : read_verdict2 s ≡ accepted → (i : ℕ) → i < v (job_in (four_of s)) → length (line_of (job_in (four_of s)) (name_from s (names_at s)) i) ≡ 96
+  pub columns_stand_second : read_verdict2 s ≡ accepted → (i : ℕ) → i < v (job_in (four_of s)) →
+      length (line_of (job_in (four_of s)) (name_from s (names_at s)) i) ≡ 96
   -- No certificate is longer than 8,192 bytes
   pub certificate_is_short : length (certificate_of s) ≤ 8192
   pub certificate_is_short_second : length (certificate_of2 s) ≤ 8192

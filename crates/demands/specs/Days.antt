@@ -1,8 +1,8 @@
 -- SUMS OF DAYS (02, P12). We repeat a job on two days and add the readings. For one design and restraint set, if both days and their sum are accepted,
 -- numerators of values and deviations for the summed readings with M added are the sums of the days' numerators. Also, the squared deviation numerators add
 -- to v·beta·Q, and the deviations, taken left minus right, total 0 for every object. Published hundredths are not claimed to add.
--- Nothing new runs. `numerator_of`, `denominator_of`, `deviation_of`, `vbeta` and `qOf` are what the calls hand out (Demand2, Answers) and the listing prints, so
--- the numerators on two listings, added line by line, are those on the listing of the sum. Assumes nothing.
+-- Nothing new runs. `numerator_of`, `denominator_of`, `deviation_of`, `vbeta` and `qOf` are what the calls hand out (Demand2, Answers) and the listing prints,
+-- so the numerators on two listings, added line by line, are those on the listing of the sum. Assumes nothing.
 use Rattle.std.specs.Prelude.{List, [], ◌∷◌, ◌≡◌, ℕ, ◌*◌, ◌<◌, ℤ, pos, ◌+ℤ◌, ◌-ℤ◌, ◌*ℤ◌}
 use Rattle.algebra.specs.Ranges.{sum}
 use Rattle.meaning.specs.Design.{occ, left, right}

@@ -6,9 +6,9 @@
 -- 2 is 12 at that byte, right after the field's own checks; optional fields are checked for 1 (start), 2 (tag below 80 hexadecimal or not rising), 3 (tag 80
 -- of length other than 8v), 1 (body), all before 5, and in edition 2 they replace 9; going back with optional fields is 13 at the first of them, after all
 -- checks of reading and before 10.
--- `four_of s` are the four fields of s, a file of the first edition; `moved_on` moves a refusal of them by the four bytes before them (those of 6 and 10 stay at
--- 0); `optional_at s` is where the optional fields start. Here stand the file and its moves; what the calls on it hand back and leave stands in SecondCalls.
--- Assumes nothing.
+-- `four_of s` are the four fields of s, a file of the first edition; `moved_on` moves a refusal of them by the four bytes before them (those of 6 and 10 stay
+-- at 0); `optional_at s` is where the optional fields start. Here stand the file and its moves; what the calls on it hand back and leave stands in
+-- SecondCalls. Assumes nothing.
 use Rattle.std.specs.Prelude.{not, ◌||◌, List, ◌∷◌, ◌≡◌, ℕ, ◌+◌, ◌*◌, ◌≤◌, ◌<◌, eqb, leb, length, get_or, take, drop}
 use Rattle.meaning.specs.Design.{objects, blocks, sized, list_length}
 use Rattle.records.specs.declared.Verdict.{Verdict}
@@ -123,7 +123,8 @@ module _ (s : List ℕ) where
     -- (its edition field alone is enough)
     pub by_its_edition_field : edition s ≡ accepted → read_verdict s ≡ refused 2 0
     -- Going back with optional fields is 13 at the first of them, after all checks of reading and before 10
-    pub back-order : (len : ℕ) → to_first_verdict s len ≡ read_verdict2 s ⨾ test (leb (length s) (optional_at s)) 13 (optional_at s) ⨾ ten len (length (four_of s))
+    pub back-order : (len : ℕ) →
+        to_first_verdict s len ≡ read_verdict2 s ⨾ test (leb (length s) (optional_at s)) 13 (optional_at s) ⨾ ten len (length (four_of s))
     pub leaves : (out : List ℕ) → OnRefusal (to_first_verdict s (length out)) (to_first_after s out) out
     pub hands_back : (len : ℕ) → let verdict = to_first_verdict s len in OnRefusal verdict (to_first_answer s len) (record { verdict = verdict; length = 0 })
     pub hands_back_its_length : (len : ℕ) →

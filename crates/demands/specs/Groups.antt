@@ -4,9 +4,9 @@
 -- a group number for each object, and accepts exactly if all four counts are constant over their pairs, returning them. Values are not wanted for these
 -- designs, so demand 3 doesn't extend here. The limit is g·v at most 50; members of object i are gi to gi + g-1. Refusals: 14 when g is below 2, g·v above
 -- 50, or, in the direct call, there are fewer than two groups or they are not of one size of at least 2; it comes after 4 and 3. Unequal counts are 6.
--- What the two calls answer is equated to `grouped_answer` and to `base_answer` and `base_words` in docs/PROMISES.md. `left_of p d k` and `right_of p d k` are the
--- sides of block k of a list d with p objects a side; `PartiallyBalanced` says that every two objects of one group, and every two of different groups, have
--- the four counts; `grouped_list h d g` is the list of the grouped blocks, and `groups_of h g` has the group of each of its objects. Assumes nothing.
+-- What the two calls answer is equated to `grouped_answer` and to `base_answer` and `base_words` in docs/PROMISES.md. `left_of p d k` and `right_of p d k` are
+-- the sides of block k of a list d with p objects a side; `PartiallyBalanced` says that every two objects of one group, and every two of different groups,
+-- have the four counts; `grouped_list h d g` is the list of the grouped blocks, and `groups_of h g` has the group of each of its objects. Assumes nothing.
 use Rattle.std.specs.Prelude.{true, ◌&&◌, List, ◌≡◌, ℕ, ◌+◌, ◌-◌, ◌*◌, ◌/◌, ◌≤◌, ◌<◌, eqb, leb, length, get_or}
 use Rattle.records.specs.declared.Head.{Head}
 use Rattle.records.specs.declared.GroupCounts.{GroupCounts}
@@ -49,7 +49,8 @@ pub record InGroups (groups : List ℕ) : Type 0 where
 -- the direct call
 module _ (count v p : ℕ) (d groups : List ℕ) where
   pub record AnyBlocks : Type 0 where
-    -- 1 to 1,300 blocks of p objects a side over v objects, v at most 50, p at least 1, 2p at most v: 4; lengths: 3; 14 comes after 4 and 3; then 5; unequal counts are 6
+    -- 1 to 1,300 blocks of p objects a side over v objects, v at most 50, p at least 1, 2p at most v: 4; lengths: 3; 14 comes after 4 and 3; then 5;
+    -- unequal counts are 6
     pub order : grouped_verdict count v p d groups
         ≡ test (leb 1 count && leb count 1300 && leb v 50 && leb 1 p && leb (2 * p) v) 4 0
         ⨾ length_is (length d) (2 * p * count) ⨾ length_is (length groups) v

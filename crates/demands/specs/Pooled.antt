@@ -4,7 +4,7 @@
 -- the bytes lent, then the first bad job's own number with the job's index, place from its own start, then 17 with the index of the first job whose v or beta
 -- differs from job 0's.
 -- `pooled_answer` is what the call promises to answer (meaning, Pooled); its index is a third number, beside the number and the place. Assumes nothing.
-use Rattle.std.specs.Prelude.{cond, List, [], ◌∷◌, ◌++◌, map, ◌≡◌, ℕ, ◌+◌, ◌*◌, ◌^◌, ◌<◌, ◌≤◌, pos, length}
+use Rattle.std.specs.Prelude.{List, [], ◌∷◌, ◌++◌, map, ◌≡◌, ℕ, ◌+◌, ◌*◌, ◌^◌, ◌<◌, ◌≤◌, pos, length}
 use Rattle.records.specs.declared.Pooled.{Pooled}
 use Rattle.records.specs.declared.Spreading.{Spreading}
 use Rattle.records.specs.declared.Spread.TheVariants.{Of, None}

@@ -5,7 +5,32 @@
 -- 16 for a true value or width out of range, after 6 and before 7.
 -- What `practice` answers and leaves is equated to `practice_verdict` and `practice_after` in docs/PROMISES.md, what `practice_file` does to
 -- `practice_file_answer` and `practice_file_after`. `along f xs` is the sum of f over the list xs. Assumes nothing.
-use Rattle.std.specs.Prelude.{◌&&◌, List, ◌≡◌, ℕ, suc, ◌+◌, ◌-◌, ◌*◌, ◌/◌, ◌%◌, ◌^◌, ◌≤◌, ◌<◌, eqb, leb, ℤ, pos, nat_abs, ◌+ℤ◌, ◌-ℤ◌, length, get_or, take, drop}
+use Rattle.std.specs.Prelude.{
+  ◌&&◌,
+  List,
+  ◌≡◌,
+  ℕ,
+  suc,
+  ◌+◌,
+  ◌-◌,
+  ◌*◌,
+  ◌/◌,
+  ◌%◌,
+  ◌^◌,
+  ◌≤◌,
+  ◌<◌,
+  eqb,
+  leb,
+  ℤ,
+  pos,
+  nat_abs,
+  ◌+ℤ◌,
+  ◌-ℤ◌,
+  length,
+  get_or,
+  take,
+  drop,
+}
 use Rattle.algebra.specs.Ranges.{all}
 use Rattle.records.specs.declared.Head.{Head}
 use Rattle.records.specs.declared.Verdict.{Verdict}

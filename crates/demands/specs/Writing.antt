@@ -27,7 +27,8 @@ module _ (j : Job) where
 
   pub record WritingJobs : Type 0 where
     -- Refusals: as for direct calls, 6 included, 10 last
-    pub order : (len : ℕ) → write_verdict h d y w M len ≡ four j ⨾ three_blocks j ⨾ three_readings j ⨾ five j ⨾ six j ⨾ seven j ⨾ eleven j ⨾ eight j ⨾ ten len size
+    pub order : (len : ℕ) →
+        write_verdict h d y w M len ≡ four j ⨾ three_blocks j ⨾ three_readings j ⨾ five j ⨾ six j ⨾ seven j ⨾ eleven j ⨾ eight j ⨾ ten len size
     -- (a refusal leaves the room as it was and hands back no length)
     pub leaves : (out : List ℕ) → OnRefusal (write_verdict h d y w M (length out)) (written_after h d y w M out) out
     pub hands_back : (len : ℕ) → let verdict = write_verdict h d y w M len in

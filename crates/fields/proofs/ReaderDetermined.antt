@@ -1,6 +1,5 @@
--- Any two outcomes that keep the promise of a function over a reader are identical. The check makes no `Post` for such a function: a law `-promises`
--- says which fact its contract is, and the theorem is about that fact. Where a clause is dropped or weakened, the law or the theorem fails. Assumes
--- nothing.
+-- Any two outcomes that keep the promise of a function over a reader are identical. A law `_promises` says which fact the function's contract is, and
+-- the theorem is about that fact. Where a clause is dropped or weakened, the law or the theorem fails. Assumes nothing.
 use mathlib.Core.Path.{◌≡◌, sym, ap₂, ◌∙◌}
 use mathlib.Core.List.{List}
 use Prim.Native.Nat.{ℕ}

@@ -1,3 +1,2 @@
--- What the walks of a reader's functions have in common, and what these promise.
-pub mod Apart
+-- What the functions over a reader promise.
 pub mod Promises

@@ -6,7 +6,7 @@ use crate::framing::{field_at, past_at};
 use records::Field;
 
 // The bytes of a job file, and how far they are read.
-#[derive(Drop)]
+#[derive(Clone, Copy)]
 pub struct Reader<'a> {
     pub bytes: &'a [u8],
     pub place: usize,

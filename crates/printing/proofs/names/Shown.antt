@@ -1,6 +1,6 @@
 -- Laws of names as they are shown: byte after byte, and without the spaces that fill them up. Assumes nothing.
-use mathlib.Core.Path.{◌≡◌, refl, sym, ap, ◌∙◌}
-use mathlib.Core.Bool.{and_false}
+use mathlib.Core.Path.{◌≡◌, refl}
+use mathlib.Core.Bool.{and-false}
 use mathlib.Core.List.{List, [], ◌∷◌, ◌++◌, append_assoc, append-nil}
 use Prim.Native.Nat.{ℕ, ◌+◌, ◌≤◌, ◌<◌}
 use native.Mathlib.Numerals.{add-one}
@@ -44,7 +44,7 @@ trimmed-last : (s : List ℕ) (x : ℕ) → (x ≡ 32 → ⊥) → trimmed (s ++
 unfolding trimmed
 trimmed-last [] x h = rw (ne_eqb x 32 h)
 trimmed-last (y ∷ s) x h =
-    rw (trimmed-last s x h, ne_eqb (length (s ++ (x ∷ []))) 0 (λ e. omega (arith, length-append s (x ∷ []))), and_false)
+    rw (trimmed-last s x h, ne_eqb (length (s ++ (x ∷ []))) 0 (λ e. omega (arith, length-append s (x ∷ []))), and-false)
 
 -- none
 pub trimmed-none : [] ≡ trimmed []

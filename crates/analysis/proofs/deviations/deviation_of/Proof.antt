@@ -29,22 +29,22 @@ use Rattle.analysis.proofs.deviations.Refusing.{
 use Rattle.analysis.proofs.deviations.deviation_of.Statement.{statement}
 use Rattle.analysis.proofs.deviations.deviation_of.Tie as tie
 
-abbrev else1-start : tie.Else1 → tie.Start
+abbrev else1-start : tie.Else-is_refused → tie.Start
 else1-start c = c.before.before.before.before
 
 -- past the tests of the blocks
-passed : (c : tie.Else1) →
+passed : (c : tie.Else-is_refused) →
     slices (else1-start c).args.head (else1-start c).args.blocks.now
     (else1-start c).args.readings.now
     ⨾ clean (else1-start c).args.head (else1-start c).args.blocks.now ≡ accepted
-passed c = sym c.before.before.blocks-refusal.ensures ∙ accepting _ (sym c.before.is-refused.ensures ∙ c.if1.false)
+passed c = sym c.blocks_refusal-tested.ensures ∙ accepting _ (sym c.is_refused.ensures ∙ c.if-is_refused.false)
 
 -- the sizes hold then
-fits : (c : tie.Else1) → Fits (else1-start c).args.head
+fits : (c : tie.Else-is_refused) → Fits (else1-start c).args.head
 fits c = (sliced _ _ _ (opened _ _ (passed c)).0).sizes
 
 -- once the job is worked out
-module _ (c : tie.After-worked) where
+module _ (c : tie.After-worked-solved) where
   abbrev start : tie.Start
   start = c.before.before.before.before.before.before.before.before
 
@@ -58,51 +58,51 @@ module _ (c : tie.After-worked) where
   ys = start.args.readings.now
 
   there : start.args.block < blocks head
-  there = omega (arith, c.before.before.if2.false)
+  there = omega (arith, c.if-head-block.false)
 
   rooms : deviations_verdict head bytes ys 1300 ≡ readings_verdict head bytes ys
   rooms = spread-verdict head bytes ys
 
-  solution : c.worked.result ≡ solved_under (deviations_verdict head bytes ys 1300) head bytes ys 3
+  solution : c.worked-solved.result ≡ solved_under (deviations_verdict head bytes ys 1300) head bytes ys 3
   solution = search rules
 
-  solved-verdict : c.worked.result.verdict ≡ readings_verdict head bytes ys
+  solved-verdict : c.worked-solved.result.verdict ≡ readings_verdict head bytes ys
   solved-verdict = ap (λ (r : Solved). r.verdict) solution ∙ rooms
 
   module _ (e : readings_verdict head bytes ys ≡ accepted) where
-    scale-is : c.worked.result.spreading.vbeta ≡ vbeta head bytes
+    scale-is : c.worked-solved.result.spreading.vbeta ≡ vbeta head bytes
     scale-is =
         ap (λ (r : Solved). r.spreading.vbeta) solution
         ∙ ap (λ (p : Spreading). p.vbeta) (given_yes (deviations_verdict head bytes ys 1300) (spreading_of head bytes ys) no_spreading (rooms ∙ e))
 
-    numerator-is : get_or c.worked.new.1.1.1.0 start.args.block (pos 0) ≡ deviation_of head bytes ys start.args.block
+    numerator-is : get_or c.worked-solved.new.deviations start.args.block (pos 0) ≡ deviation_of head bytes ys start.args.block
     numerator-is =
-        ap (λ (l : List ℤ). get_or l start.args.block (pos 0)) (c.worked.ensures.1 ∙ given_yes (deviations_verdict head bytes ys 1300) _ _ (rooms ∙ e))
+        ap (λ (l : List ℤ). get_or l start.args.block (pos 0)) (c.worked-solved.ensures.1 ∙ given_yes (deviations_verdict head bytes ys 1300) _ _ (rooms ∙ e))
         ∙ get_d_over (blocks head) (deviation_of head bytes ys) _ (pos 0) start.args.block there (fits c.before.before.before.before).blocks-most
 
-returns : tie.Need-returns
+returns : tie.Need-returns-then-is_refused
 returns c =
-    let r = sym c.before.before.is-refused.ensures ∙ c.before.if1.true in
-    c.no_deviation_lem.ensures ∙ no_deviation_is _ _ _ _ _ r
-    (deviation_refused _ _ _ _ _ _ (sym c.before.before.before.blocks-refusal.ensures ∙ refusing _ r))
+    let r = sym c.is_refused.ensures ∙ c.if-is_refused.true in
+    c.no_deviation.ensures ∙ no_deviation_is _ _ _ _ _ r
+    (deviation_refused _ _ _ _ _ _ (sym c.blocks_refusal-tested.ensures ∙ refusing _ r))
 
-returns-2 : tie.Need-returns-2
-returns-2 c = c.no-deviation2.ensures
+returns-2 : tie.Need-returns-then-head-block
+returns-2 c = c.no_deviation-then-head-block.ensures
     ∙ no_deviation_is _ _ _ _ (refused 5 _) refl (deviation_no_block _ _ _ _ (passed c.before.before.before) (search rules))
 
-returns-3 : tie.Need-returns-3
+returns-3 : tie.Need-returns-then-is_refused-2
 returns-3 c =
     let a = c.before.before.before.before in
-    let r = sym c.before.before.is-refused2.ensures ∙ c.before.if3.true in
-    c.no-deviation3.ensures ∙ no_deviation_is _ _ _ _ _ r
+    let r = sym c.is_refused-2.ensures ∙ c.if-is_refused-2.true in
+    c.no_deviation-then-is_refused-2.ensures ∙ no_deviation_is _ _ _ _ _ r
     (deviation_readings _ _ _ _ (passed a.before.before.before.before) (there a) ∙ sym (solved-verdict a) ∙ refusing _ r)
 
-returns-4 : tie.Need-returns-4
+returns-4 : tie.Need-returns
 returns-4 c =
     let a = c.before.before.before.before in
-    let e = sym (solved-verdict a) ∙ accepting _ (sym c.before.before.is-refused2.ensures ∙ c.before.if3.false) in
+    let e = sym (solved-verdict a) ∙ accepting _ (sym c.is_refused-2.ensures ∙ c.if-is_refused-2.false) in
     deviation_is_given _ _ _ _ _ _ (deviation_readings _ _ _ _ (passed c.before.before.before.before.before.before.before.before) (there a) ∙ e)
-    (read_back _ c.numerator.given ∙ numerator-is a e) (search (scale-is a e))
+    (read_back _ c.numerator-1.given ∙ numerator-is a e) (search (scale-is a e))
 
 pub deviation_of_spec : {M : Type 1} → statement M
 deviation_of_spec =

@@ -6,7 +6,7 @@ use Rattle.analysis.proofs.deviations.deviations.Statement.{statement}
 use Rattle.analysis.proofs.deviations.deviations.Tie as tie
 
 returns : tie.Need-returns
-returns c = (search (ap (λ (r : Solved). r.verdict) c.before.worked.ensures.0), search rules)
+returns c = (search (ap (λ (r : Solved). r.verdict) c.worked-solved.ensures.0), search rules)
 
 pub deviations_spec : {M : Type 1} → statement M
 deviations_spec = tie.close (tie.spec (λ c κs. search rules) (λ c. search rules) returns)

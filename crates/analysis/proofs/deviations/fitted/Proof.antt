@@ -10,15 +10,15 @@ use Rattle.analysis.proofs.deviations.fitted.Statement.{statement}
 use Rattle.analysis.proofs.deviations.fitted.Tie as tie
 
 -- the two sides
-module _ (c : tie.After-set-sum2) where
+module _ (c : tie.After-set_sum-right) where
   abbrev start : tie.Start
   start = c.before.before.before.before.before
 
   abbrev left : Num
-  left = called c.before.set_sum.result (64 * total_limit) c.before.set_sum.ensures (set-small _ _ start.pre.1.0) (lit< tt)
+  left = called c.set_sum-left.result (64 * total_limit) c.set_sum-left.ensures (set-small _ _ start.requires.1.0) (lit< tt)
 
   abbrev right : Num
-  right = called c.set-sum2.result (64 * total_limit) c.set-sum2.ensures (set-small _ _ start.pre.1.1) (lit< tt)
+  right = called c.set_sum-right.result (64 * total_limit) c.set_sum-right.ensures (set-small _ _ start.requires.1.1) (lit< tt)
 
 returns : tie.Need-returns
 returns c = rw (minus (left c) (right c) (lit< tt)).reads refl
@@ -34,7 +34,7 @@ fitted_spec =
     (λ c. omega arith)
     (λ c. omega arith)
     (λ c. omega arith)
-    (λ c κs. c.before.before.before.requires.1.0)
-    (λ c κs. c.before.before.before.before.requires.1.1)
+    (λ c κs. c.requires.1.0)
+    (λ c κs. c.requires.1.1)
     (λ c. minus_fits (left c) (right c) (lit< tt))
     returns)

@@ -28,20 +28,20 @@ module _ (part i own object : ℕ) (a : part ≤ own) (b : own ≤ part) where
       let same : part ≡ own = omega arith in
       sym (ap₂ (λ (x y : Bool). cond (x || y) 1 0) (le-ltb own part a) (ap₂ (λ (x y : Bool). x && y) (eq-eqb part own same) e))
 
-returns : tie.Need-returns
-returns c = let a = c.before.args in let l : a.own < a.part = omega arith in larger a.part a.i a.own a.object l
+returns : tie.Need-returns-then-own-part
+returns c = let a = c.args in let l : a.own < a.part = omega arith in larger a.part a.i a.own a.object l
 
-returns-2 : tie.Need-returns-2
-returns-2 c = let a = c.before.before.args in let l : a.part < a.own = omega arith in smaller a.part a.i a.own a.object l
+returns-2 : tie.Need-returns-then-part-own
+returns-2 c = let a = c.args in let l : a.part < a.own = omega arith in smaller a.part a.i a.own a.object l
 
-returns-3 : tie.Need-returns-3
+returns-3 : tie.Need-returns-then-i-object
 returns-3 c =
-    let a = c.before.before.before.args in
+    let a = c.args in
     as_large a.part a.i a.own a.object (omega arith) (omega arith) true (lt-ltb a.i a.object (omega arith))
 
-returns-4 : tie.Need-returns-4
+returns-4 : tie.Need-returns
 returns-4 c =
-    let a = c.before.before.before.args in
+    let a = c.args in
     as_large a.part a.i a.own a.object (omega arith) (omega arith) false (le-ltb a.i a.object (omega arith))
 
 pub goes_before_spec : {M : Type 1} → statement M

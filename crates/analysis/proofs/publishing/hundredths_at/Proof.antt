@@ -32,43 +32,43 @@ module _ (a : ℤ) (d m own shared : ℕ) where
   rounds n = sym (ap (λ (t : Bool). cond t (below_of a d +ℤ pos (cond (ltb own shared) 1 0)) (hundredths_of a d)) (ne_eqb m 1 n))
 
 -- the hundredths at or below of a member
-module _ (c : tie.After-hundredths-below) where
+module _ (c : tie.After-hundredths_below-below) where
   abbrev start : tie.Start
   start = c.before.before.before
 
-  is_below : c.hundredths-below.result ≡ below_of start.args.numerator start.args.denominator
-  is_below = rw (to_z-of_z start.fits.numerator) at c.hundredths-below.ensures
+  is_below : c.hundredths_below-below.result ≡ below_of start.args.numerator start.args.denominator
+  is_below = rw (to_z-of_z start.ranges.numerator) at c.hundredths_below-below.ensures
 
   is_member : member start.args.set start.args.object ≡ 1
-  is_member = sym c.before.before.holds.ensures ∙ search c.before.if1.true
+  is_member = sym c.holds.ensures ∙ search c.if-holds-eq1.true
 
   abbrev below : Num
-  below = called c.hundredths-below.result (2 ^ 60) is_below (omega (arith, below-small start.args.numerator start.args.denominator)) (lit< tt)
+  below = called c.hundredths_below-below.result (2 ^ 60) is_below (omega (arith, below-small start.args.numerator start.args.denominator)) (lit< tt)
 
   abbrev more : Num
   more = plus below (number (pos 1) 1 (omega arith) (lit< tt)) (lit< tt)
 
-returns : tie.Need-returns
+returns : tie.Need-returns-then-own-shared
 returns c =
     let s = start c.before in
     (more c.before).reads
     ∙ gains s.args.numerator s.args.denominator (member s.args.set s.args.object) s.args.own s.args.shared
     (is_member c.before) (omega arith)
 
-returns-2 : tie.Need-returns-2
+returns-2 : tie.Need-returns-then-holds-eq1
 returns-2 c =
     let s = start c.before in
     (below c.before).reads
     ∙ stays s.args.numerator s.args.denominator (member s.args.set s.args.object) s.args.own s.args.shared
     (is_member c.before) (omega arith)
 
-returns-3 : tie.Need-returns-3
+returns-3 : tie.Need-returns
 returns-3 c =
     let s = c.before.before.before in
-    read_back c.hundredths.result c.hundredths.type-inv
+    read_back c.hundredths.result c.hundredths.type_inv
     ∙ (rw (to_z-of_z s.ranges.numerator) at c.hundredths.ensures)
     ∙ rounds s.args.numerator s.args.denominator (member s.args.set s.args.object) s.args.own s.args.shared
-    (λ e. c.before.if1.false (search (c.before.before.holds.ensures ∙ e)))
+    (λ e. c.if-holds-eq1.false (search (c.holds.ensures ∙ e)))
 
 pub hundredths_at_spec : {M : Type 1} → statement M
 hundredths_at_spec =

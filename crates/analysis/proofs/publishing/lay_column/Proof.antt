@@ -10,16 +10,16 @@ use Rattle.analysis.specs.Column.{numerator_at}
 use Rattle.analysis.proofs.publishing.lay_column.Statement.{statement}
 use Rattle.analysis.proofs.publishing.lay_column.Tie as tie
 
-abbrev invariant-loop : tie.invariant-loop
+abbrev invariant-loop : tie.invariant-loop-i
 invariant-loop column v hundredths₀ i₀ hundredths i =
     (i ≤ v) × (hundredths ≡ over i (numerator_at column) hundredths₀) × (length hundredths ≡ length hundredths₀)
 
-abbrev decreases-loop : tie.decreases-loop
+abbrev decreases-loop : tie.decreases-loop-i
 decreases-loop column v hundredths₀ i₀ hundredths i = v - i
 
-loop-again : tie.Need-loop-preserved invariant-loop decreases-loop
+loop-again : tie.Need-loop-i-preserved invariant-loop decreases-loop
 loop-again c =
-    let l = c.before.before.loop in
+    let l = c.loop-i in
     let s = c.before.before.before in
     let at : l.i < length s.args.hundredths.now = omega (arith, s.requires.1) in
     (omega arith, over-step l.i (numerator_at s.args.column.now) _ l.invariant.1 (search rules) at, simp length-set l.invariant.2)
@@ -32,11 +32,11 @@ lay_column_spec =
     decreases-loop
     (λ c. (omega arith, over_none _ _, refl))
     (λ c. omega arith)
-    (λ c. omega (arith, c.before.before.requires.0))
+    (λ c. omega (arith, c.requires.0))
     (λ c. omega arith)
-    (λ c. omega (arith, c.before.before.before.requires.1, c.before.before.loop.invariant.2))
+    (λ c. omega (arith, c.requires.1, c.loop-i.invariant.2))
     (λ c. omega arith)
     (λ c. omega arith)
     loop-again
-    (λ c. c.before.loop.invariant.2)
-    (λ c. over-end _ _ c.before.loop.invariant.1 (omega arith)))
+    (λ c. c.loop-i.invariant.2)
+    (λ c. over-end _ _ c.loop-i.invariant.1 (omega arith)))

@@ -12,17 +12,17 @@ use Rattle.analysis.specs.Column.{part_from}
 use Rattle.analysis.proofs.publishing.parts_of.Statement.{statement}
 use Rattle.analysis.proofs.publishing.parts_of.Tie as tie
 
-abbrev invariant-loop : tie.invariant-loop
+abbrev invariant-loop : tie.invariant-loop-i
 invariant-loop numerators denominator parts₀ i₀ parts i = (i ≤ 50) × (parts ≡ over i (part_from numerators denominator) (replicate 50 0)) × (length parts ≡ 50)
 
-abbrev decreases-loop : tie.decreases-loop
+abbrev decreases-loop : tie.decreases-loop-i
 decreases-loop numerators denominator parts₀ i₀ parts i = 50 - i
 
-loop-again : tie.Need-loop-preserved invariant-loop decreases-loop
+loop-again : tie.Need-loop-i-preserved invariant-loop decreases-loop
 loop-again c =
-    let l = c.before.before.before.loop in
-    let a = c.before.before.before.before.args in
-    let part : c.hundredths-part.result ≡ part_from a.numerators.now a.denominator l.i = search (c.hundredths-part.ensures, rules) in (
+    let l = c.loop-i in
+    let a = c.args in
+    let part : c.hundredths_part.result ≡ part_from a.numerators.now a.denominator l.i = search (c.hundredths_part.ensures, rules) in (
       omega arith,
       over-step l.i (part_from a.numerators.now a.denominator) (replicate 50 0) l.invariant.1
           part (omega arith),
@@ -44,4 +44,4 @@ parts_of_spec =
     (λ c. omega arith)
     (λ c. omega arith)
     loop-again
-    (λ c. over-end _ _ c.before.loop.invariant.1 (omega arith)))
+    (λ c. over-end _ _ c.loop-i.invariant.1 (omega arith)))

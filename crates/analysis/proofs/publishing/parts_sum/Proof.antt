@@ -12,19 +12,19 @@ use Rattle.analysis.specs.Column.{part_at, parts_in}
 use Rattle.analysis.proofs.publishing.parts_sum.Statement.{statement}
 use Rattle.analysis.proofs.publishing.parts_sum.Tie as tie
 
-abbrev invariant-loop : tie.invariant-loop
+abbrev invariant-loop : tie.invariant-loop-i
 invariant-loop parts set sum₀ i₀ sum i = (i ≤ 50) × (sum ≡ sum_ℕ i (λ j. member set j * part_at parts j)) × (sum ≤ i * 2 ^ 53)
 
-abbrev decreases-loop : tie.decreases-loop
+abbrev decreases-loop : tie.decreases-loop-i
 decreases-loop parts set sum₀ i₀ sum i = 50 - i
 
 -- what a turn adds
 module _ (c : tie.After-holds invariant-loop decreases-loop) where
   abbrev start : tie.Start invariant-loop decreases-loop
-  start = c.before.before.before.before
+  start = c.before.before.before.before.before
 
   abbrev i : ℕ
-  i = c.before.before.before.loop.i
+  i = c.loop-i.i
 
   abbrev part : ℕ
   part = part_at start.args.parts.now i
@@ -35,18 +35,18 @@ module _ (c : tie.After-holds invariant-loop decreases-loop) where
   small : c.holds.result * part ≤ 2 ^ 53
   small =
       let one : c.holds.result ≤ 1 = omega (arith, held, bit-most start.args.set i) in
-      let below : part ≤ 2 ^ 53 = omega (arith, start.pre.most i (omega arith)) in
+      let below : part ≤ 2 ^ 53 = omega (arith, start.requires.most i (omega arith)) in
       omega (arith, mul-le-mul one below)
 
-  next : c.before.before.before.loop.sum + c.holds.result * part ≡ sum_ℕ (i + 1) (λ j. member start.args.set j * part_at start.args.parts.now j)
-  next = ap₂ (λ (a b : ℕ). a + b * part) c.before.before.before.loop.invariant.1 held ∙ sym (sumℕ-more i _)
+  next : c.loop-i.sum + c.holds.result * part ≡ sum_ℕ (i + 1) (λ j. member start.args.set j * part_at start.args.parts.now j)
+  next = ap₂ (λ (a b : ℕ). a + b * part) c.loop-i.invariant.1 held ∙ sym (sumℕ-more i _)
 
 returns : tie.Need-returns invariant-loop decreases-loop
 unfolding parts_in
 returns c =
-    let l = c.before.loop in
+    let l = c.loop-i in
     let e : l.i ≡ 50 = omega arith in
-    search (l.invariant.1 ∙ ap (λ (n : ℕ). sum_ℕ n (λ j. member c.before.before.args.set j * part_at c.before.before.args.parts.now j)) e)
+    search (l.invariant.1 ∙ ap (λ (n : ℕ). sum_ℕ n (λ j. member c.args.set j * part_at c.args.parts.now j)) e)
 
 pub parts_sum_spec : {M : Type 1} → statement M
 parts_sum_spec =
@@ -59,8 +59,8 @@ parts_sum_spec =
     (λ c. omega arith)
     (λ c κs. search rules)
     (λ c. record { fits = omega (arith, small c) })
-    (λ c. record { fits = omega (arith, small c, c.before.before.before.loop.invariant.2) })
+    (λ c. record { fits = omega (arith, small c, c.loop-i.invariant.2) })
     (λ c. omega arith)
     (λ c. omega arith)
-    (λ c. (omega arith, search (next c), omega (arith, small c, c.before.before.before.loop.invariant.2)))
+    (λ c. (omega arith, search (next c), omega (arith, small c, c.loop-i.invariant.2)))
     returns)

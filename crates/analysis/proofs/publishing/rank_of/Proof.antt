@@ -15,22 +15,22 @@ use Rattle.analysis.specs.Column.{part_at}
 use Rattle.analysis.proofs.publishing.rank_of.Statement.{statement}
 use Rattle.analysis.proofs.publishing.rank_of.Tie as tie
 
-abbrev invariant-loop : tie.invariant-loop
+abbrev invariant-loop : tie.invariant-loop-i
 invariant-loop parts set object own count₀ i₀ count i = (i ≤ 50) × (count ≡ sum_ℕ i (λ j. member set j * before (part_at parts) j object)) × (count ≤ i)
 
-abbrev decreases-loop : tie.decreases-loop
+abbrev decreases-loop : tie.decreases-loop-i
 decreases-loop parts set object own count₀ i₀ count i = 50 - i
 
 -- what a turn adds
-module _ (c : tie.After-goes-before invariant-loop decreases-loop) where
+module _ (c : tie.After-goes_before invariant-loop decreases-loop) where
   abbrev walk : tie.After-holds invariant-loop decreases-loop
   walk = c.before
 
   abbrev start : tie.Start invariant-loop decreases-loop
-  start = walk.before.before.before.before.before
+  start = walk.before.before.before.before.before.before.before
 
   abbrev i : ℕ
-  i = walk.before.before.before.loop.i
+  i = walk.loop-i.i
 
   abbrev ahead : ℕ
   ahead = before (part_at start.args.parts.now) i start.args.object
@@ -56,15 +56,15 @@ module _ (c : tie.After-goes-before invariant-loop decreases-loop) where
       ) in
       omega (arith, mul-le-mul a b)
 
-  next : walk.before.before.before.loop.count + walk.holds.result * c.goes_before.result
+  next : walk.loop-i.count + walk.holds.result * c.goes_before.result
       ≡ sum_ℕ (i + 1) (λ j. member start.args.set j * before (part_at start.args.parts.now) j start.args.object)
-  next = ap₂ (λ (a b : ℕ). a + b) walk.before.before.before.loop.inv.1 (ap₂ (λ (a b : ℕ). a * b) held goes) ∙ sym (sumℕ-more i _)
+  next = ap₂ (λ (a b : ℕ). a + b) walk.loop-i.invariant.1 (ap₂ (λ (a b : ℕ). a * b) held goes) ∙ sym (sumℕ-more i _)
 
 returns : tie.Need-returns invariant-loop decreases-loop
 unfolding rank
 returns c =
-    let l = c.before.loop in
-    let a = c.before.before.before.args in
+    let l = c.loop-i in
+    let a = c.args in
     let e : l.i ≡ 50 = omega arith in
     search (l.invariant.1 ∙ ap (λ (n : ℕ). sum_ℕ n (λ j. member a.set j * before (part_at a.parts.now) j a.object)) e)
 
@@ -82,8 +82,8 @@ rank_of_spec =
     (λ c κs. search rules)
     (λ c κs. search rules)
     (λ c. record { fits = omega (arith, small c) })
-    (λ c. record { fits = omega (arith, small c, (walk c).before.before.before.loop.invariant.2) })
+    (λ c. record { fits = omega (arith, small c, (walk c).loop-i.invariant.2) })
     (λ c. omega arith)
     (λ c. omega arith)
-    (λ c. (omega arith, search (next c), omega (arith, small c, (walk c).before.before.before.loop.invariant.2)))
+    (λ c. (omega arith, search (next c), omega (arith, small c, (walk c).loop-i.invariant.2)))
     returns)

@@ -8,20 +8,20 @@ use Rattle.analysis.specs.Column.{part_at, parts_in}
 use Rattle.analysis.proofs.publishing.shared_out.Statement.{statement}
 use Rattle.analysis.proofs.publishing.shared_out.Tie as tie
 
-returns : tie.Need-returns
+returns : tie.Need-returns-then-denominator-eq0
 returns c =
-    let a = c.before.args in
+    let a = c.args in
     let none : a.denominator ≡ 0 = omega arith in
     let zero : 0 ≡ parts_in (part_at a.parts.now) a.set / a.denominator =
     sym (ap (λ (d : ℕ). parts_in (part_at a.parts.now) a.set / d) none ∙ div-zero _) in
     search zero
 
-returns-2 : tie.Need-returns-2
+returns-2 : tie.Need-returns
 returns-2 c =
-    let a = c.before.before.args in
-    let cut : c.parts-sum.result / a.denominator ≡ parts_in (part_at a.parts.now) a.set / a.denominator =
-    ap (λ (n : ℕ). n / a.denominator) c.parts-sum.ensures in
+    let a = c.args in
+    let cut : c.parts_sum.result / a.denominator ≡ parts_in (part_at a.parts.now) a.set / a.denominator =
+    ap (λ (n : ℕ). n / a.denominator) c.parts_sum.ensures in
     search cut
 
 pub shared_out_spec : {M : Type 1} → statement M
-shared_out_spec = tie.close (tie.spec returns (λ c κs. search c.before.requires) (λ c. omega arith) returns-2)
+shared_out_spec = tie.close (tie.spec returns (λ c κs. search c.requires) (λ c. omega arith) returns-2)

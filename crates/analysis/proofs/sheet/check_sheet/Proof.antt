@@ -63,7 +63,7 @@ module _ (h : Head) (d : List ℕ) (y : List ℤ) (w : ℕ) (M : ℤ) (claims : 
       (accepts e (test_yes (eqb (length claims) (objects h)) 15 0 (eq-eqb _ _ long))))
 
 -- the job worked out
-module _ (c : tie.After-analyse) where
+module _ (c : tie.After-analyse-solved) where
   abbrev start : tie.Start
   start = c.before.before.before.before.before
 
@@ -88,72 +88,72 @@ module _ (c : tie.After-analyse) where
   rooms : analyse_verdict head bytes ys set sum 2600 50 1300 ≡ tests
   rooms = job-verdict head bytes ys set sum
 
-  solved-verdict : c.analyse.result.verdict ≡ tests
-  solved-verdict = ap (λ (r : Solved). r.verdict) (rw (to_z-of_z start.fits.sum) at c.analyse.ensures.0) ∙ rooms
+  solved-verdict : c.analyse-solved.result.verdict ≡ tests
+  solved-verdict = ap (λ (r : Solved). r.verdict) (rw (to_z-of_z start.ranges.sum) at c.analyse-solved.ensures.0) ∙ rooms
 
   module _ (e : tests ≡ accepted) where
-    denominator-is : c.analyse.result.denominator ≡ denominator_of head bytes set
-    denominator-is = ap (λ (r : Solved). r.denominator) (rw (to_z-of_z start.fits.sum) at c.analyse.ensures.0)
+    denominator-is : c.analyse-solved.result.denominator ≡ denominator_of head bytes set
+    denominator-is = ap (λ (r : Solved). r.denominator) (rw (to_z-of_z start.ranges.sum) at c.analyse-solved.ensures.0)
         ∙ given_yes (analyse_verdict head bytes ys set sum 2600 50 1300) (denominator_of head bytes set) 0 (rooms ∙ e)
 
-    spread-is : c.analyse.result.spreading.spread ≡ spread_of (spread_hundredths_of head bytes ys) (freedom head)
-    spread-is = ap (λ (r : Solved). r.spreading.spread) (rw (to_z-of_z start.fits.sum) at c.analyse.ensures.0)
+    spread-is : c.analyse-solved.result.spreading.spread ≡ spread_of (spread_hundredths_of head bytes ys) (freedom head)
+    spread-is = ap (λ (r : Solved). r.spreading.spread) (rw (to_z-of_z start.ranges.sum) at c.analyse-solved.ensures.0)
         ∙ ap (λ (s : Spreading). s.spread)
         (given_yes (analyse_verdict head bytes ys set sum 2600 50 1300) (spreading_of head bytes ys) no_spreading (rooms ∙ e))
 
-    filled_is : c.analyse.new.1.1.1.1.1.1.0 ≡ over (objects head) (numerator_of head bytes ys set sum) (replicate 50 (pos 0))
-    filled_is = (rw (to_z-of_z start.fits.sum) at c.analyse.ensures.1.1.0)
+    filled_is : c.analyse-solved.new.values ≡ over (objects head) (numerator_of head bytes ys set sum) (replicate 50 (pos 0))
+    filled_is = (rw (to_z-of_z start.ranges.sum) at c.analyse-solved.ensures.1.1.0)
         ∙ given_yes (analyse_verdict head bytes ys set sum 2600 50 1300) _ _ (rooms ∙ e)
 
 -- it is accepted
-module _ (c : tie.Else1) where
-  abbrev worked : tie.After-analyse
+module _ (c : tie.Else-is_refused) where
+  abbrev worked : tie.After-analyse-solved
   worked = c.before.before.before.before.before
 
   good : tests worked ≡ accepted
-  good = sym (solved-verdict worked) ∙ accepting _ (sym c.before.is-refused.ensures ∙ c.if1.false)
+  good = sym (solved-verdict worked) ∙ accepting _ (sym c.is_refused.ensures ∙ c.if-is_refused.false)
 
 -- v
-counted : (c : tie.After-objects) → c.objects.result ≡ objects (head (worked c.before))
+counted : (c : tie.After-objects-v) → c.objects-v.result ≡ objects (head (worked c.before))
 counted c = let a = worked c.before in
-    c.objects.ensures ∙ within-sizes _ _ (job (head a) (bytes a) (ys a) (set a) (sum a) (good c.before)).measures.design.sizes
+    c.objects-v.ensures ∙ within-sizes _ _ (job (head a) (bytes a) (ys a) (set a) (sum a) (good c.before)).measures.design.sizes
 
-returns : tie.Need-returns
+returns : tie.Need-returns-then-is_refused
 returns c =
     let a = c.before.before.before.before.before.before in
     let s = start a in
-    let r = sym c.before.before.is-refused.ensures ∙ c.before.if1.true in
-    let told : c.under.result ≡ checked_under a.analyse.result.verdict agrees = search c.under.ensures in
+    let r = sym c.is_refused.ensures ∙ c.if-is_refused.true in
+    let told : c.under.result ≡ checked_under a.analyse-solved.result.verdict agrees = search c.under.ensures in
     search (told
     ∙ refused-job (head a) (bytes a) (ys a) (set a) (sum a) s.args.claims.now s.args.claimed _ _ _ (refusing _ r) (sym (solved-verdict a)))
 
-returns-2 : tie.Need-returns-2
+returns-2 : tie.Need-returns-then-claims-v
 returns-2 c =
     let a = worked c.before.before in
     let s = start a in
-    let differ : length s.args.claims.now ≡ c.before.objects.result → ⊥ = search c.if2.true in
+    let differ : length s.args.claims.now ≡ c.objects-v.result → ⊥ = search c.if-claims-v.true in
     search (wrong_length (head a) (bytes a) (ys a) (set a) (sum a) s.args.claims.now s.args.claimed (good c.before.before)
     (λ q. differ (q ∙ sym (counted c.before))))
 
-returns-3 : tie.Need-returns-3
+returns-3 : tie.Need-returns
 returns-3 c =
     let n = c.before.before.before in
     let k = n.before.before in
     let a = worked k.before.before in
     let s = start a in
     let e = good k.before.before in
-    let long : length s.args.claims.now ≡ k.before.objects.result = search k.if2.false in
-    let filled = a.analyse.last.1.1.1.1.1.1.0 in
-    let laid : n.column.result ≡ column_of filled a.analyse.result.denominator (set a) = search n.column.ensures in
-    let column : (i : ℕ) → i < objects (head a) → claim n.column.result i ≡ published (head a) (bytes a) (ys a) (set a) (sum a) i =
+    let long : length s.args.claims.now ≡ k.objects-v.result = search k.if-claims-v.false in
+    let filled = a.analyse-solved.new.values in
+    let laid : n.column-column.result ≡ column_of filled a.analyse-solved.result.denominator (set a) = search n.column-column.ensures in
+    let column : (i : ℕ) → i < objects (head a) → claim n.column-column.result i ≡ published (head a) (bytes a) (ys a) (set a) (sum a) i =
     λ i l. ap (λ (z : List ℤ). claim z i) (laid ∙ ap (λ (d : ℕ). column_of filled d (set a)) (denominator-is a e))
     ∙ column-published _ _ _ _ _ (job (head a) (bytes a) (ys a) (set a) (sum a) e) _ _ refl (filled_is a e) i l in
     let found : c.compare.result
-    ≡ against (length s.args.claims.now) (claim n.column.result) a.analyse.result.spreading.spread s.args.claims.now s.args.claimed =
+    ≡ against (length s.args.claims.now) (claim n.column-column.result) a.analyse-solved.result.spreading.spread s.args.claims.now s.args.claimed =
     search c.compare.ensures in
     search (found
     ∙ compared (head a) (bytes a) (ys a) (set a) (sum a) s.args.claims.now s.args.claimed e (long ∙ counted k.before)
-    n.column.result a.analyse.result.spreading.spread column (spread-is a e))
+    n.column-column.result a.analyse-solved.result.spreading.spread column (spread-is a e))
 
 pub check_sheet_spec : {M : Type 1} → statement M
 check_sheet_spec =

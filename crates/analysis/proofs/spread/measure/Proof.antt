@@ -14,7 +14,7 @@ use Rattle.analysis.proofs.spread.measure.Statement.{statement}
 use Rattle.analysis.proofs.spread.measure.Tie as tie
 
 -- once both are measured
-module _ (c : tie.After-subtract) where
+module _ (c : tie.After-subtract-q) where
   abbrev start : tie.Start
   start = c.before.before
 
@@ -22,27 +22,27 @@ module _ (c : tie.After-subtract) where
   all = value start.args.readings * start.args.vbeta
 
   fits : all < 2 ^ 120
-  fits = omega (arith, mul-le-mul start.pre.readings-most start.pre.vbeta-most)
+  fits = omega (arith, mul-le-mul start.requires.readings-most start.requires.vbeta-most)
 
   -- no product leaves its words, so their difference is Q
-  q_is : c.subtract.result ≡ wide (start.args.vbeta * value start.args.readings - value start.args.totals)
-  q_is = c.subtract.ensures
+  q_is : c.subtract-q.result ≡ wide (start.args.vbeta * value start.args.readings - value start.args.totals)
+  q_is = c.subtract-q.ensures
       ∙ ap (λ (n : ℕ). wide (n - value start.args.totals))
-      (exact all fits c.before.times.ensures ∙ mul_comm (value start.args.readings) start.args.vbeta)
+      (exact all fits c.times-scaled.ensures ∙ mul_comm (value start.args.readings) start.args.vbeta)
 
 -- v
 counted : (c : tie.After-objects) → c.objects.result ≡ objects (start c.before.before).args.head
-counted c = c.objects.ensures ∙ within-sizes _ _ (start c.before.before).pre.sizes
+counted c = c.objects.ensures ∙ within-sizes _ _ (start c.before.before).requires.sizes
 
-sub_freedom : tie.Need-overflow-sub-freedom
-sub_freedom c = omega (arith, counted c, (start c.before.before).pre.freedom-some)
+sub_freedom : tie.Need-overflow_sub-freedom
+sub_freedom c = omega (arith, counted c, (start c.before.before).requires.freedom-some)
 
 returns : tie.Need-returns
 returns c =
     let m = c.before.before.before in
     let a = (start m).args in
-    c.spread-from.ensures
-    ∙ ap (λ (w : Wide). spreading_from w a.vbeta (blocks a.head + 1 - c.before.objects.result)) (q_is m)
+    c.spread_from.ensures
+    ∙ ap (λ (w : Wide). spreading_from w a.vbeta (blocks a.head + 1 - c.objects.result)) (q_is m)
     ∙ ap (λ (v : ℕ). spreading_from (wide (a.vbeta * value a.readings - value a.totals)) a.vbeta (blocks a.head + 1 - v)) (counted c.before)
 
 pub measure_spec : {M : Type 1} → statement M
@@ -51,8 +51,8 @@ measure_spec =
     (tie.spec
     (λ c κs. search rules)
     (λ c κs. search rules)
-    (λ c. omega (arith, (start c.before).pre.sizes.blocks-most))
-    (λ c. omega (arith, (start c.before).pre.sizes.blocks-most))
+    (λ c. omega (arith, (start c.before).requires.sizes.blocks-most))
+    (λ c. omega (arith, (start c.before).requires.sizes.blocks-most))
     (λ c κs. search rules)
     sub_freedom
     (λ c κs. search rules)

@@ -7,8 +7,8 @@ use Rattle.analysis.proofs.spread.q.Statement.{statement}
 use Rattle.analysis.proofs.spread.q.Tie as tie
 
 returns : tie.Need-returns
-returns c = let a = c.before.before.before.before.args in
-    search (ap (λ (r : JobSpread). record { verdict = r.verdict; sum = r.spreading.q }) c.before.before.spread.ensures
+returns c = let a = c.args in
+    search (ap (λ (r : JobSpread). record { verdict = r.verdict; sum = r.spreading.q }) c.spread-measured.ensures
     ∙ sym (q_of_spread a.head a.blocks.now a.readings.now))
 
 pub q_spec : {M : Type 1} → statement M

@@ -7,7 +7,7 @@ use Rattle.analysis.proofs.spread.spread.Tie as tie
 returns : tie.Need-returns
 returns c =
     let s = c.before.before.before.before.before in
-    spread_of_solved s.args.head s.args.blocks.now s.args.readings.now c.before.before.worked.result (search rules)
+    spread_of_solved s.args.head s.args.blocks.now s.args.readings.now c.worked-solved.result (search rules)
 
 pub spread_spec : {M : Type 1} → statement M
 spread_spec = tie.close (tie.spec (λ c. search rules) (λ c κs. search rules) returns)

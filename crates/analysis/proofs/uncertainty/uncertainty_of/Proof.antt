@@ -9,28 +9,28 @@ use Rattle.analysis.proofs.uncertainty.uncertainty_of.Statement.{statement}
 use Rattle.analysis.proofs.uncertainty.uncertainty_of.Tie as tie
 
 -- what the call for the value promised
-module _ (c : tie.After-value-of) where
+module _ (c : tie.After-value_of-valued) where
   abbrev start : tie.Start
   start = c.before.before
 
-  valued : c.value_of_lem.result ≡ value_answer start.args.head start.args.blocks.now start.args.readings.now start.args.set start.args.sum
+  valued : c.value_of-valued.result ≡ value_answer start.args.head start.args.blocks.now start.args.readings.now start.args.set start.args.sum
       start.args.object
-  valued = rw (to_z-of_z start.fits.sum) at c.value_of_lem.ensures
+  valued = rw (to_z-of_z start.ranges.sum) at c.value_of-valued.ensures
 
-returns : tie.Need-returns
+returns : tie.Need-returns-then-is_refused
 returns c =
     let v = c.before.before in
-    search (states_nothing _ _ _ _ _ _ v.value_of_lem.result.verdict (sym c.before.is-refused.ensures ∙ c.if1.true)
+    search (states_nothing _ _ _ _ _ _ v.value_of-valued.result.verdict (sym c.is_refused.ensures ∙ c.if-is_refused.true)
     (ap (λ (o : ObjectValue). o.verdict) (valued v)))
 
-returns-2 : tie.Need-returns-2
+returns-2 : tie.Need-returns
 returns-2 c =
     let s = c.before.before.before in
     let e = s.before.before in
     let v = e.before.before in
     let a = (start v).args in
-    search (states a.head a.blocks.now a.readings.now a.set a.sum a.object v.value_of_lem.result s.spread.result (valued v)
-    s.spread.ensures (sym e.before.is-refused.ensures ∙ e.if1.false) c.uncertainty-from.result (search c.uncertainty-from.ensures))
+    search (states a.head a.blocks.now a.readings.now a.set a.sum a.object v.value_of-valued.result s.spread-measured.result (valued v)
+    s.spread-measured.ensures (sym e.is_refused.ensures ∙ e.if-is_refused.false) c.uncertainty_from-uncertainty.result (search c.uncertainty_from-uncertainty.ensures))
 
 pub uncertainty_of_spec : {M : Type 1} → statement M
 uncertainty_of_spec =

@@ -17,26 +17,26 @@ few : (w : ℕ) → sum_ℕ 64 (member w) ≤ 64
 unfolding members
 few w = members-most 64 w
 
-held : (c : tie.Then1) → member c.before.before.before.args.set c.before.before.before.args.object ≡ 1
-held c = omega (arith, c.before.holds.ensures, c.if1.true)
+held : (c : tie.Then-holds-eq1) → member c.args.set c.args.object ≡ 1
+held c = omega (arith, c.holds.ensures, c.if-holds-eq1.true)
 
-not-held : (c : tie.Else1) → member c.before.before.before.args.set c.before.before.before.args.object ≡ 0
+not-held : (c : tie.Else-holds-eq1) → member c.args.set c.args.object ≡ 0
 not-held c =
     let s = c.before.before.before in
-    omega (arith, c.before.holds.ensures, c.if1.false, member-most s.args.set s.args.object)
+    omega (arith, c.holds.ensures, c.if-holds-eq1.false, member-most s.args.set s.args.object)
 
 -- an object that it holds is one of its ones
-some : (c : tie.Then1) → 0 < sum_ℕ 64 (member c.before.before.before.args.set)
+some : (c : tie.Then-holds-eq1) → 0 < sum_ℕ 64 (member c.args.set)
 some c =
-    let s = c.before.before.before.args in
+    let s = c.args in
     let below = one_below 64 s.set s.object (omega arith) (held c) in
     omega (arith, held c, sumℕ-others 64 s.object (member s.set) below)
 
-returns : tie.Need-returns
-returns c = rw (held c) (omega (arith, c.before.before.ones.ensures))
+returns : tie.Need-returns-then-holds-eq1
+returns c = rw (held c) (omega (arith, c.ones-t.ensures))
 
-returns-2 : tie.Need-returns-2
-returns-2 c = rw (not-held c) (omega (arith, c.before.before.ones.ensures))
+returns-2 : tie.Need-returns-else-holds-eq1
+returns-2 c = rw (not-held c) (omega (arith, c.ones-t.ensures))
 
 pub factor_of_spec : {M : Type 1} → statement M
 factor_of_spec =
@@ -44,7 +44,7 @@ factor_of_spec =
     (tie.spec
     (λ c κs. search rules)
     (λ c κs. search rules)
-    (λ c. omega (arith, c.before.before.ones.ensures, some c))
-    (λ c. omega (arith, c.before.before.ones.ensures, few c.before.before.before.args.set))
+    (λ c. omega (arith, c.ones-t.ensures, some c))
+    (λ c. omega (arith, c.ones-t.ensures, few c.args.set))
     returns
     returns-2)

@@ -32,15 +32,15 @@ use Rattle.analysis.proofs.values.Refusing.{factor-is, value_from_is}
 use Rattle.analysis.proofs.values.value_of.Statement.{statement}
 use Rattle.analysis.proofs.values.value_of.Tie as tie
 
-abbrev else1-start : tie.Else1 → tie.Start
+abbrev else1-start : tie.Else-is_refused → tie.Start
 else1-start c = c.before.before.before.before
 
 -- past the tests of the blocks
-passed : (c : tie.Else1) →
+passed : (c : tie.Else-is_refused) →
     slices (else1-start c).args.head (else1-start c).args.blocks.now
     (else1-start c).args.readings.now
     ⨾ clean (else1-start c).args.head (else1-start c).args.blocks.now ≡ accepted
-passed c = sym c.before.before.blocks-refusal.ensures ∙ accepting _ (sym c.before.is-refused.ensures ∙ c.if1.false)
+passed c = sym c.blocks_refusal-tested.ensures ∙ accepting _ (sym c.is_refused.ensures ∙ c.if-is_refused.false)
 
 abbrev objects-start : tie.After-objects → tie.Start
 objects-start c = c.before.before.before.before.before
@@ -50,8 +50,8 @@ counted : (c : tie.After-objects) → c.objects.result ≡ objects (objects-star
 counted c = c.objects.ensures ∙ within-sizes _ _ (sliced _ _ _ (opened _ _ (passed c.before)).0).sizes
 
 -- once the job is worked out
-module _ (c : tie.After-analyse) where
-  abbrev at_if2 : tie.Else2
+module _ (c : tie.After-analyse-solved) where
+  abbrev at_if2 : tie.Else-objects-object
   at_if2 = c.before.before.before.before
 
   abbrev start : tie.Start
@@ -70,52 +70,52 @@ module _ (c : tie.After-analyse) where
   tests = job_verdict head bytes ys start.args.set start.args.sum
 
   there : start.args.object < objects head
-  there = omega (arith, counted c.before.before.before.before.before, at_if2.if2.left)
+  there = omega (arith, counted c.before.before.before.before.before, at_if2.if-objects-object.false)
 
   rooms : analyse_verdict head bytes ys start.args.set start.args.sum 2600 50 1300 ≡ tests
   rooms = job-verdict head bytes ys start.args.set start.args.sum
 
-  solved-verdict : c.analyse.result.verdict ≡ tests
-  solved-verdict = ap (λ (r : Solved). r.verdict) (rw (to_z-of_z start.fits.sum) at c.analyse.ensures.0) ∙ rooms
+  solved-verdict : c.analyse-solved.result.verdict ≡ tests
+  solved-verdict = ap (λ (r : Solved). r.verdict) (rw (to_z-of_z start.ranges.sum) at c.analyse-solved.ensures.0) ∙ rooms
 
   module _ (e : tests ≡ accepted) where
-    denominator-is : c.analyse.result.denominator ≡ denominator_of head bytes start.args.set
-    denominator-is = ap (λ (r : Solved). r.denominator) (rw (to_z-of_z start.fits.sum) at c.analyse.ensures.0)
+    denominator-is : c.analyse-solved.result.denominator ≡ denominator_of head bytes start.args.set
+    denominator-is = ap (λ (r : Solved). r.denominator) (rw (to_z-of_z start.ranges.sum) at c.analyse-solved.ensures.0)
         ∙ given_yes (analyse_verdict head bytes ys start.args.set start.args.sum 2600 50 1300) (denominator_of head bytes start.args.set) 0
         (rooms ∙ e)
 
-    filled_is : c.analyse.new.1.1.1.1.1.1.0 ≡ over (objects head) (numerator_of head bytes ys start.args.set start.args.sum)
+    filled_is : c.analyse-solved.new.values ≡ over (objects head) (numerator_of head bytes ys start.args.set start.args.sum)
         (replicate 50 (pos 0))
-    filled_is = (rw (to_z-of_z start.fits.sum) at c.analyse.ensures.1.1.0)
+    filled_is = (rw (to_z-of_z start.ranges.sum) at c.analyse-solved.ensures.1.1.0)
         ∙ given_yes (analyse_verdict head bytes ys start.args.set start.args.sum 2600 50 1300) _ _ (rooms ∙ e)
 
-    numerator-is : get_or c.analyse.new.1.1.1.1.1.1.0 start.args.object (pos 0) ≡ numerator_of head bytes ys start.args.set
+    numerator-is : get_or c.analyse-solved.new.values start.args.object (pos 0) ≡ numerator_of head bytes ys start.args.set
         start.args.sum start.args.object
     numerator-is =
         ap (λ (l : List ℤ). get_or l start.args.object (pos 0)) filled_is
         ∙ get_d_over (objects head) (numerator_of head bytes ys start.args.set start.args.sum) _ (pos 0) start.args.object there
         (job head bytes ys start.args.set start.args.sum e).measures.design.sizes.objects-most
 
-returns : tie.Need-returns
+returns : tie.Need-returns-then-is_refused
 returns c =
-    let r = sym c.before.before.is-refused.ensures ∙ c.before.if1.true in
-    c.no_value.ensures ∙ no_value_is _ _ _ _ _ _ _ r (value-refused _ _ _ _ _ _ _ _ (sym c.before.before.before.blocks-refusal.ensures ∙ refusing _ r))
+    let r = sym c.is_refused.ensures ∙ c.if-is_refused.true in
+    c.no_value.ensures ∙ no_value_is _ _ _ _ _ _ _ r (value-refused _ _ _ _ _ _ _ _ (sym c.blocks_refusal-tested.ensures ∙ refusing _ r))
 
-returns-2 : tie.Need-returns-2
-returns-2 c = c.no-value2.ensures
+returns-2 : tie.Need-returns-then-objects-object
+returns-2 c = c.no_value-then-objects-object.ensures
     ∙ no_value_is _ _ _ _ _ _ (refused 5 _) refl (value_no_object _ _ _ _ _ _ (passed c.before.before.before) (omega (arith, counted c.before.before)))
 
-returns-3 : tie.Need-returns-3
+returns-3 : tie.Need-returns-then-is_refused-2
 returns-3 c =
     let a = c.before.before.before.before.before.before in
-    let r = sym c.before.before.is-refused2.ensures ∙ c.before.if3.true in
-    c.no-value3.ensures ∙ no_value_is _ _ _ _ _ _ _ r
+    let r = sym c.is_refused-2.ensures ∙ c.if-is_refused-2.true in
+    c.no_value-then-is_refused-2.ensures ∙ no_value_is _ _ _ _ _ _ _ r
     (value-job _ _ _ _ _ _ (passed c.before.before.before.before.before.before.before.before.before.before.before.before) (there a)
     ∙ sym (solved-verdict a) ∙ refusing _ r)
 
 -- the object has its place among 50 values
-module _ (c : tie.After-column) where
-  abbrev worked : tie.After-analyse
+module _ (c : tie.After-column-column) where
+  abbrev worked : tie.After-analyse-solved
   worked = c.before.before.before.before.before.before.before
 
   fitting : (start worked).args.object < 50
@@ -127,9 +127,9 @@ module _ (c : tie.After-column) where
 
   -- and the job is accepted
   good : tests worked ≡ accepted
-  good = sym (solved-verdict worked) ∙ accepting _ (sym c.before.before.before.is-refused2.ensures ∙ c.before.before.if3.false)
+  good = sym (solved-verdict worked) ∙ accepting _ (sym c.is_refused-2.ensures ∙ c.if-is_refused-2.false)
 
-returns-4 : tie.Need-returns-4
+returns-4 : tie.Need-returns
 returns-4 c =
     let f = c.before.before.before in
     let n = f.before in
@@ -137,17 +137,17 @@ returns-4 c =
     let s = start a in
     let e = good n in
     let j = job (head a) (bytes a) (ys a) s.args.set s.args.sum e in
-    let filled = a.analyse.last.1.1.1.1.1.1.0 in
-    let made : c.value-from.result ≡ value_from (to_z w64 (of_z w64 (get_or filled s.args.object (pos 0)))) a.analyse.result.denominator
-    (to_z w64 (of_z w64 (get_or n.column.result s.args.object (pos 0)))) f.factor-of.result = search c.value-from.ensures in
-    let factors : f.factor-of.result ≡ factor_in s.args.set s.args.object = search f.factor-of.ensures in
-    let laid : n.column.result ≡ column_of filled a.analyse.result.denominator s.args.set = search n.column.ensures in
-    let hundredths : get_or n.column.result s.args.object (pos 0) ≡ published (head a) (bytes a) (ys a) s.args.set s.args.sum s.args.object =
+    let filled = a.analyse-solved.new.values in
+    let made : c.value_from-value.result ≡ value_from (to_z w64 (of_z w64 (get_or filled s.args.object (pos 0)))) a.analyse-solved.result.denominator
+    (to_z w64 (of_z w64 (get_or n.column-column.result s.args.object (pos 0)))) f.factor_of-factor.result = search c.value_from-value.ensures in
+    let factors : f.factor_of-factor.result ≡ factor_in s.args.set s.args.object = search f.factor_of-factor.ensures in
+    let laid : n.column-column.result ≡ column_of filled a.analyse-solved.result.denominator s.args.set = search n.column-column.ensures in
+    let hundredths : get_or n.column-column.result s.args.object (pos 0) ≡ published (head a) (bytes a) (ys a) s.args.set s.args.sum s.args.object =
     ap (λ (l : List ℤ). get_or l s.args.object (pos 0)) (laid ∙ ap (λ (d : ℕ). column_of filled d s.args.set) (denominator-is a e))
     ∙ column-published _ _ _ _ _ j _ _ refl (filled_is a e) s.args.object (there a) in
     value_is_given _ _ _ _ _ _ _ (value-job _ _ _ _ _ _ (passed a.before.before.before.before.before.before) (there a) ∙ e)
-    (made ∙ (λ i. value_from ((read_back _ c.before.before.value-from-arg.given ∙ numerator-is a e) i) (denominator-is a e i)
-    ((read_back _ c.before.value-from-arg2.given ∙ hundredths) i) ((factors ∙ factor-is _ _ _ _ _ s.args.object j) i))
+    (made ∙ (λ i. value_from ((read_back _ c.value_from-arg-1.given ∙ numerator-is a e) i) (denominator-is a e i)
+    ((read_back _ c.value_from-arg-2-1.given ∙ hundredths) i) ((factors ∙ factor-is _ _ _ _ _ s.args.object j) i))
     ∙ value_from_is _ _ _ _ _ _ _ j refl)
 
 pub value_of_spec : {M : Type 1} → statement M

@@ -15,8 +15,8 @@ returns c =
     let s = c.before.before.before.before.before.before.before.before in
     let read = to_z-of_z s.ranges.sum in
     let e = values-verdict s.args.head s.args.blocks.now s.args.readings.now s.args.set s.args.sum (length s.args.values.now) in (
-      rw (← e) (search (ap (λ (r : Solved). r.verdict) (rw read at c.before.before.before.analyse.ensures.0))),
-      (rw read at c.before.before.before.analyse.ensures.1.1.0)
+      rw (← e) (search (ap (λ (r : Solved). r.verdict) (rw read at c.analyse-solved.ensures.0))),
+      (rw read at c.analyse-solved.ensures.1.1.0)
           ∙ ap (λ (v : Verdict). values_under v s.args.head s.args.blocks.now s.args.readings.now s.args.set s.args.sum
           s.args.values.now) e,
     )

@@ -44,61 +44,61 @@ module _ (s : tie.Start) where
   roomy = rooms head (length s.args.words.now) (length s.args.values.now) (length s.args.deviations.now)
 
 -- what the judgement says
-module _ (c : tie.After-judged-job) where
+module _ (c : tie.After-judged_job-judged) where
   abbrev start : tie.Start
   start = c.before.before.before
 
-  judgement : c.judged-job.result ≡ job_judged (head (start)) (bytes (start))
+  judgement : c.judged_job-judged.result ≡ job_judged (head (start)) (bytes (start))
       (ys (start)) start.args.set start.args.sum
-  judgement = rw (to_z-of_z start.fits.sum) at c.judged-job.ensures
+  judgement = rw (to_z-of_z start.ranges.sum) at c.judged_job-judged.ensures
 
-  judged-verdict : c.judged-job.result.verdict ≡ tests (start)
+  judged-verdict : c.judged_job-judged.result.verdict ≡ tests (start)
   judged-verdict = ap (λ (r : Judged). r.verdict) judgement
 
 -- past the tests of the job, the rooms decide
-passed : (c : tie.Else1) → tests c.before.before.before.before.before ≡ accepted
-passed c = sym (judged-verdict c.before.before) ∙ accepting _ (sym c.before.is-refused.ensures ∙ c.if1.false)
+passed : (c : tie.Else-is_refused) → tests c.before.before.before.before.before ≡ accepted
+passed c = sym (judged-verdict c.before.before) ∙ accepting _ (sym c.is_refused.ensures ∙ c.if-is_refused.false)
 
-rooms_decide : (c : tie.Else1) → verdict c.before.before.before.before.before ≡ roomy c.before.before.before.before.before
+rooms_decide : (c : tie.Else-is_refused) → verdict c.before.before.before.before.before ≡ roomy c.before.before.before.before.before
 rooms_decide c = analyse_rooms _ _ _ _ _ _ _ _ (passed c)
 
 -- past these too
-accepts : (c : tie.Else2) → roomy c.before.before.before.before.before.before.before.before ≡ accepted
-accepts c = sym c.before.before.rooms-refusal.ensures ∙ accepting _ (sym c.before.is-refused2.ensures ∙ c.if2.false)
+accepts : (c : tie.Else-is_refused-2) → roomy c.before.before.before.before.before.before.before.before ≡ accepted
+accepts c = sym c.rooms_refusal-roomy.ensures ∙ accepting _ (sym c.is_refused-2.ensures ∙ c.if-is_refused-2.false)
 
 -- where it refuses all stays as it was
-returns : tie.Need-returns
+returns : tie.Need-returns-then-is_refused
 returns c =
     let j = c.before.before.before in
     let s = c.before.before.before.before.before.before in
-    let r = refusing _ (sym c.before.before.is-refused.ensures ∙ c.before.if1.true) in
+    let r = refusing _ (sym c.is_refused.ensures ∙ c.if-is_refused.true) in
     let e = analyse_refused _ _ _ _ _ _ _ _ _ _ (sym (judged-verdict j) ∙ r) in (
-      c.no-solution.ensures ∙ no_solution_is _ (verdict s) (head s) (bytes s) (ys s) s.args.set _ _ (r ∙ sym e) e,
+      c.no_solution.ensures ∙ no_solution_is _ (verdict s) (head s) (bytes s) (ys s) s.args.set _ _ (r ∙ sym e) e,
       (sym (given_no (verdict s) _ _ _ _ e), (sym (given_no (verdict s) _ _ _ _ e), sym (given_no (verdict s) _ _ _ _ e))),
     )
 
-rooms_refusal_requires : tie.Need-rooms-refusal-requires
+rooms_refusal_requires : tie.Need-rooms_refusal-roomy-requires
 rooms_refusal_requires c κs = (job _ _ _ _ _ (passed c)).measures.design.sizes
 
-returns-2 : tie.Need-returns-2
+returns-2 : tie.Need-returns-then-is_refused-2
 returns-2 c =
     let s = c.before.before.before.before.before.before.before.before.before in
-    let r = refusing _ (sym c.before.before.is-refused2.ensures ∙ c.before.if2.true) in
-    let e = rooms_decide c.before.before.before.before ∙ sym c.before.before.before.rooms-refusal.ensures ∙ r in (
-      c.no-solution2.ensures ∙ no_solution_is _ (verdict s) (head s) (bytes s) (ys s) s.args.set _ _ (r ∙ sym e) e,
+    let r = refusing _ (sym c.is_refused-2.ensures ∙ c.if-is_refused-2.true) in
+    let e = rooms_decide c.before.before.before.before ∙ sym c.rooms_refusal-roomy.ensures ∙ r in (
+      c.no_solution-then-is_refused-2.ensures ∙ no_solution_is _ (verdict s) (head s) (bytes s) (ys s) s.args.set _ _ (r ∙ sym e) e,
       (sym (given_no (verdict s) _ _ _ _ e), (sym (given_no (verdict s) _ _ _ _ e), sym (given_no (verdict s) _ _ _ _ e))),
     )
 
 -- once the words are developed
 module _ (c : tie.After-develop) where
-  abbrev at_judged_job : tie.After-judged-job
+  abbrev at_judged_job : tie.After-judged_job-judged
   at_judged_job = c.before.before.before.before.before.before.before
 
   abbrev s : tie.Start
   s = c.before.before.before.before.before.before.before.before.before.before
 
   abbrev words : List ℕ
-  words = c.develop.new.1.1.0
+  words = c.develop.new.words
 
   stands : (2 * blocks (head s) ≤ length s.args.words.now) × (objects (head s) ≤ length s.args.values.now) ×
       (blocks (head s) ≤ length s.args.deviations.now)
@@ -111,7 +111,7 @@ module _ (c : tie.After-develop) where
   words_are = developed-words _ _ _ _ _ _ (passed c.before.before.before.before.before) stands.0 c.develop.ensures.1
 
   developed : Developed (head s) (bytes s) (ys s) s.args.set s.args.sum
-      at_judged_job.judged-job.result.parameters words
+      at_judged_job.judged_job-judged.result.parameters words
   developed = record {
     stands = passed c.before.before.before.before.before;
     parameters_are = ap (λ (r : Judged). r.parameters) (judgement (at_judged_job))
@@ -121,14 +121,14 @@ module _ (c : tie.After-develop) where
 
 work_requires : tie.Need-work-requires
 work_requires c κs =
-    let d = c.before.before.before.before.before.before in
+    let d = c.before.before.before.before.before in
     (rw (to_z-of_z (s d).ranges.sum) (workable (developed d)), ((stands d).1, (stands d).2))
 
-returns-3 : tie.Need-returns-3
+returns-3 : tie.Need-returns
 returns-3 c =
-    let d = c.before.before.before.before.before.before.before.before.before in
+    let d = c.before.before.before.before.before.before.before.before in
     let e = all d in
-    let w = c.before.before.work.ensures in (
+    let w = c.work.ensures in (
       w.0 ∙ record_is (developed d) (verdict (s d)) e,
       (
         words_are d ∙ sym (given_yes (verdict (s d)) _ _ e),

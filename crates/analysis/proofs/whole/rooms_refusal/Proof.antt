@@ -9,29 +9,29 @@ use Rattle.analysis.proofs.whole.rooms_refusal.Statement.{statement}
 use Rattle.analysis.proofs.whole.rooms_refusal.Tie as tie
 
 -- v
-counted : (c : tie.After-objects) → c.objects.result ≡ objects c.before.args.head
-counted c = c.objects.ensures ∙ within-sizes _ _ c.before.requires
+counted : (c : tie.After-objects-v) → c.objects-v.result ≡ objects c.args.head
+counted c = c.objects-v.ensures ∙ within-sizes _ _ c.requires
 
-returns : tie.Need-returns
-returns c = let a = c.before.before.before.args in sym (no_words a.head a.words a.values a.deviations (search rules))
+returns : tie.Need-returns-then-words-b
+returns c = let a = c.args in sym (no_words a.head a.words a.values a.deviations (search rules))
 
-returns-2 : tie.Need-returns-2
+returns-2 : tie.Need-returns-then-values-v
 returns-2 c =
-    let a = c.before.before.before.before.args in
+    let a = c.args in
     sym (no_values a.head a.words a.values a.deviations (search rules) (omega (arith, counted c.before.before.before)))
 
-returns-3 : tie.Need-returns-3
+returns-3 : tie.Need-returns-then-deviations-b
 returns-3 c =
-    let a = c.before.before.before.before.before.args in
+    let a = c.args in
     sym (no_deviations a.head a.words a.values a.deviations (search rules) (omega (arith, counted c.before.before.before.before))
     (search rules))
 
-returns-4 : tie.Need-returns-4
+returns-4 : tie.Need-returns
 returns-4 c =
-    let a = c.before.before.before.before.before.args in
+    let a = c.args in
     sym (roomy a.head a.words a.values a.deviations (search rules) (omega (arith, counted c.before.before.before.before)) (search rules))
 
 pub rooms_refusal_spec : {M : Type 1} → statement M
 rooms_refusal_spec =
-    tie.close (tie.spec (λ c κs. search rules) (λ c. let f = c.before.before.requires in omega arith)
-    (λ c. let f = c.before.before.requires in omega arith) returns returns-2 returns-3 returns-4)
+    tie.close (tie.spec (λ c κs. search rules) (λ c. let f = c.requires in omega arith)
+    (λ c. let f = c.requires in omega arith) returns returns-2 returns-3 returns-4)

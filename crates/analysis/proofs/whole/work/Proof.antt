@@ -28,7 +28,7 @@ use Rattle.analysis.proofs.whole.work.Statement.{statement}
 use Rattle.analysis.proofs.whole.work.Tie as tie
 
 -- once the words are weighed
-module _ (c : tie.After-weigh) where
+module _ (c : tie.After-weigh-squared_totals) where
   abbrev start : tie.Start
   start = c.before.before.before
 
@@ -39,40 +39,40 @@ module _ (c : tie.After-weigh) where
   ys = start.args.readings.now
 
   abbrev totals : List ℤ
-  totals = c.weigh.new.1.1.1.0
+  totals = c.weigh-squared_totals.new.totals
 
   stands : Weighable start.args.head words ys 50
-  stands = weighable _ _ _ _ start.pre.0.weighable
+  stands = weighable _ _ _ _ start.requires.0.weighable
 
   filled : totals ≡ over (objects start.args.head) (total_in words ys (blocks start.args.head)) (replicate 50 (pos 0))
-  filled = c.weigh.ensures.1 ∙ given_yes _ _ _ start.pre.0.weighable
+  filled = c.weigh-squared_totals.ensures.1 ∙ given_yes _ _ _ start.requires.0.weighable
 
   abbrev measures : Measured start.args.head (scale_in start.args.parameters) (squares_in ys (blocks start.args.head))
       (squared_totals_in words ys (blocks start.args.head) (objects start.args.head))
-  measures = start.pre.0.measured
+  measures = start.requires.0.measured
 
   -- the squared totals fit two words
-  squared : value c.weigh.result.sum ≡ squared_totals_in words ys (blocks start.args.head) (objects start.args.head)
+  squared : value c.weigh-squared_totals.result.sum ≡ squared_totals_in words ys (blocks start.args.head) (objects start.args.head)
   squared = exact (squared_totals_in words ys (blocks start.args.head) (objects start.args.head))
       (omega (arith, measures.q_some, mul-le-mul measures.vbeta-most measures.readings-most))
-      (ap (λ (r : SquareSum). r.sum) c.weigh.ensures.0 ∙ given_yes _ _ _ start.pre.0.weighable)
+      (ap (λ (r : SquareSum). r.sum) c.weigh-squared_totals.ensures.0 ∙ given_yes _ _ _ start.requires.0.weighable)
 
   ranged : Totalled totals (objects start.args.head)
   ranged = totalled _ _ _ _ _ stands filled
 
 -- so do the squared readings
-squares-fit : (c : tie.After-weigh) (r : Wide) → r ≡ wide (squares_in (ys c) (blocks (start c).args.head)) →
+squares-fit : (c : tie.After-weigh-squared_totals) (r : Wide) → r ≡ wide (squares_in (ys c) (blocks (start c).args.head)) →
     value r ≡ squares_in (ys c) (blocks (start c).args.head)
 squares-fit c r e = exact (squares_in (ys c) (blocks (start c).args.head)) (omega (arith, (measures c).readings-most)) e
 
-abbrev objects-start : tie.After-objects → tie.Start
+abbrev objects-start : tie.After-objects-v → tie.Start
 objects-start c = c.before.before.before.before.before
 
 -- v
-counted : (c : tie.After-objects) → c.objects.result ≡ objects (objects-start c).args.head
-counted c = c.objects.ensures ∙ within-sizes _ _ (stands c.before.before).fit
+counted : (c : tie.After-objects-v) → c.objects-v.result ≡ objects (objects-start c).args.head
+counted c = c.objects-v.ensures ∙ within-sizes _ _ (stands c.before.before).fit
 
-fill_values_requires : tie.Need-fill-values-requires
+fill_values_requires : tie.Need-fill_values-denominator-requires
 fill_values_requires c κs =
     let w = c.before.before.before.before.before.before.before in
     let v = counted c.before.before.before.before.before in (
@@ -85,25 +85,25 @@ fill_values_requires c κs =
       ),
     )
 
-fill_deviations_requires : tie.Need-fill-deviations-requires
+fill_deviations_requires : tie.Need-fill_deviations-squared_readings-requires
 fill_deviations_requires c κs =
     let w = c.before.before.before.before.before.before.before.before.before.before.before in
     ((stands w).weighed, ((λ i l. held_by _ _ _ (ranged w) ((stands w).within.below i l)), ((start w).requires.1.1, (start w).requires.0.scale-most)))
 
-measure_requires : tie.Need-measure-requires
+measure_requires : tie.Need-measure-spreading-requires
 measure_requires c κs =
-    let w = c.before.before.before.before.before.before.before.before.before.before.before.before.before in
+    let w = c.before.before.before.before.before.before.before.before.before.before.before.before.before.before in
     subst₂ (λ (R T : ℕ). Measured (start w).args.head (scale_in (start w).args.parameters) R T)
-    (sym (squares-fit w _ c.before.fill-deviations.ensures.0)) (sym (squared w)) (start w).requires.0.measured
+    (sym (squares-fit w _ c.fill_deviations-squared_readings.ensures.0)) (sym (squared w)) (start w).requires.0.measured
 
 returns : tie.Need-returns
 returns c =
-    let f = c.before.before.before.before.before.before.fill-values.ensures in
-    let w = c.before.before.before.before.before.before.before.before.before.before.before.before.before.before in
-    let v = counted c.before.before.before.before.before.before.before.before.before.before.before.before in
+    let f = c.fill_values-denominator.ensures in
+    let w = c.before.before.before.before.before.before.before.before.before.before.before.before.before.before.before in
+    let v = counted c.before.before.before.before.before.before.before.before.before.before.before.before.before in
     let a = (start w).args in
-    let spread = c.measure.ensures
-    ∙ (λ j. spreading_from (wide (scale_in a.parameters * squares-fit w _ c.before.before.fill-deviations.ensures.0 j - squared w j))
+    let spread = c.measure-spreading.ensures
+    ∙ (λ j. spreading_from (wide (scale_in a.parameters * squares-fit w _ c.fill_deviations-squared_readings.ensures.0 j - squared w j))
     (scale_in a.parameters) (freedom a.head)) in (
       (λ j. record {
         verdict = accepted;
@@ -118,7 +118,7 @@ returns c =
             ∙ ap (λ (M : ℤ). over (objects a.head) (numerator_in (total_at (totals w)) (objects a.head) a.set (scale_in a.parameters) M)
             a.values.now) (to_z-of_z (start w).ranges.sum)
             ∙ numerators_agree _ _ _ _ _ (stands w) (filled w) a.set (scale_in a.parameters) a.sum a.values.now (start w).requires.0.set-inside,
-        c.before.before.fill-deviations.ensures.1 ∙ deviations_agree _ _ _ _ _ (stands w) (filled w) (scale_in a.parameters) a.deviations.now,
+        c.fill_deviations-squared_readings.ensures.1 ∙ deviations_agree _ _ _ _ _ (stands w) (filled w) (scale_in a.parameters) a.deviations.now,
       ),
     )
 
@@ -130,8 +130,8 @@ work_spec =
     (λ c κs. tt)
     (λ c κs. search rules)
     (λ c. omega (arith, (stands c.before.before.before).fit.blocks-most))
-    (λ c. (start c.before.before.before.before).pre.0.less)
-    (λ c. omega (arith, (start c.before.before.before.before.before).pre.0.scale-most))
+    (λ c. (start c.before.before.before.before).requires.0.less)
+    (λ c. omega (arith, (start c.before.before.before.before.before).requires.0.scale-most))
     fill_values_requires
     fill_deviations_requires
     measure_requires

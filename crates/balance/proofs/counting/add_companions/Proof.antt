@@ -13,52 +13,52 @@ use borrow.Author.Rules.{rules}
 use Rattle.balance.proofs.counting.add_companions.Statement.{statement}
 use Rattle.balance.proofs.counting.add_companions.Tie as tie
 
-abbrev invariant-loop : tie.invariant-loop
+abbrev invariant-loop : tie.invariant-loop-companion
 invariant-loop side i row₀ rest₀ companion₀ row rest companion =
     (companion ≡ lowest_of rest) × (rest < 2 ^ 50) × (walked rest (λ k x. x + company_of side i k) row ≡ walked side (λ k x. x + company_of side i k) row₀)
 
-abbrev decreases-loop : tie.decreases-loop
+abbrev decreases-loop : tie.decreases-loop-companion
 decreases-loop side i row₀ rest₀ companion₀ row rest companion = rest
 
 -- within the loop there is an object, and it has a column
-some : (c : tie.In-loop invariant-loop decreases-loop) → 0 < c.before.loop.rest
+some : (c : tie.In-loop-companion invariant-loop decreases-loop) → 0 < c.loop-companion.rest
 some c = some_left _ (omega arith)
 
-column : (c : tie.In-loop invariant-loop decreases-loop) → c.before.loop.companion < 50
-column c = omega (arith, lowest_lt 50 c.before.loop.rest (some c) c.before.loop.invariant.1 (omega arith))
+column : (c : tie.In-loop-companion invariant-loop decreases-loop) → c.loop-companion.companion < 50
+column c = omega (arith, lowest_lt 50 c.loop-companion.rest (some c) c.loop-companion.invariant.1 (omega arith))
 
-loop-holds : tie.Need-loop-init invariant-loop decreases-loop
+loop-holds : tie.Need-loop-companion-init invariant-loop decreases-loop
 loop-holds c = (search rules, search rules, refl)
 
-add_row : tie.Need-overflow-add-row invariant-loop decreases-loop
+add_row : tie.Need-overflow_add-row invariant-loop decreases-loop
 add_row c =
-    let a = c.before.before.before.before.before.args in
-    let l = c.before.before.before.loop in
+    let a = c.args in
+    let l = c.loop-companion in
     omega (
       arith,
       row-most (company_of a.side a.i) (λ k. product-most a.side a.side a.i k) l.rest a.side l.row a.row.now l.invariant.2
           l.companion,
-      c.before.before.before.before.before.requires.1 l.companion,
+      c.requires.1 l.companion,
       product-most a.side a.side a.i l.companion,
-      c.before.in-company.ensures,
+      c.in_company.ensures,
     )
 
-loop-again : tie.Need-loop-preserved invariant-loop decreases-loop
+loop-again : tie.Need-loop-companion-preserved invariant-loop decreases-loop
 loop-again c =
-    let a = c.before.before.before.before.before.before.before.args in
-    let l = c.before.before.before.before.before.loop in
-    let less = rest-less l.rest (some c.before.before.before.before) in
-    let rest = c.before.without-lowest.ensures in (
-      c.lowest2.ensures,
+    let a = c.args in
+    let l = c.loop-companion in
+    let less = rest-less l.rest (some c.before.before.before.before.before) in
+    let rest = c.without_lowest-rest.ensures in (
+      c.lowest-companion-in-loop-companion.ensures,
       omega arith,
-      walk_step (λ k x. x + company_of a.side a.i k) l.rest l.row 0 (some c.before.before.before.before) (omega arith) l.invariant.0 rest
-          (ap (λ (y : ℕ). get_or l.row l.companion 0 + y) c.before.before.before.in-company.ensures) l.invariant.2,
+      walk_step (λ k x. x + company_of a.side a.i k) l.rest l.row 0 (some c.before.before.before.before.before) (omega arith) l.invariant.0 rest
+          (ap (λ (y : ℕ). get_or l.row l.companion 0 + y) c.in_company.ensures) l.invariant.2,
     )
 
 returns : tie.Need-returns invariant-loop decreases-loop
 returns c =
-    let a = c.before.before.before.args in
-    let l = c.before.loop in
+    let a = c.args in
+    let l = c.loop-companion in
     let none : l.rest ≡ 0 = none_left l.rest (omega arith) (omega arith) in
     walk_end (λ k x. x + company_of a.side a.i k) a.side l.row a.row.now (λ k x e. rw e (omega arith)) (rw none at l.invariant.2)
 
@@ -72,11 +72,11 @@ add_companions_spec =
     loop-holds
     (λ c κs. search rules)
     (λ c. omega (arith, column c.before))
-    (λ c. omega (arith, column c.before))
-    add_row
     (λ c. omega (arith, column c.before.before))
+    add_row
+    (λ c. omega (arith, column c.before.before.before))
     (λ c κs. search rules)
     (λ c κs. search rules)
-    (λ c. omega (arith, rest-less _ (some c.before.before.before.before)))
+    (λ c. omega (arith, rest-less _ (some c.before.before.before.before.before)))
     loop-again
     returns)

@@ -13,54 +13,54 @@ use borrow.Author.Rules.{rules}
 use Rattle.balance.proofs.counting.add_opponents.Statement.{statement}
 use Rattle.balance.proofs.counting.add_opponents.Tie as tie
 
-abbrev invariant-loop : tie.invariant-loop
+abbrev invariant-loop : tie.invariant-loop-opponent
 invariant-loop own other i row₀ rest₀ opponent₀ row rest opponent =
     (opponent ≡ lowest_of rest) × (rest < 2 ^ 50) ×
     (walked rest (λ k x. x + opposition_of own other i k) row ≡ walked other (λ k x. x + opposition_of own other i k) row₀)
 
-abbrev decreases-loop : tie.decreases-loop
+abbrev decreases-loop : tie.decreases-loop-opponent
 decreases-loop own other i row₀ rest₀ opponent₀ row rest opponent = rest
 
 -- within the loop there is an object, and it has a column
-some : (c : tie.In-loop invariant-loop decreases-loop) → 0 < c.before.loop.rest
+some : (c : tie.In-loop-opponent invariant-loop decreases-loop) → 0 < c.loop-opponent.rest
 some c = some_left _ (omega arith)
 
-column : (c : tie.In-loop invariant-loop decreases-loop) → c.before.loop.opponent < 50
-column c = omega (arith, lowest_lt 50 c.before.loop.rest (some c) c.before.loop.invariant.1 (omega arith))
+column : (c : tie.In-loop-opponent invariant-loop decreases-loop) → c.loop-opponent.opponent < 50
+column c = omega (arith, lowest_lt 50 c.loop-opponent.rest (some c) c.loop-opponent.invariant.1 (omega arith))
 
-loop-holds : tie.Need-loop-init invariant-loop decreases-loop
+loop-holds : tie.Need-loop-opponent-init invariant-loop decreases-loop
 loop-holds c = (search rules, search rules, refl)
 
-add_row : tie.Need-overflow-add-row invariant-loop decreases-loop
+add_row : tie.Need-overflow_add-row invariant-loop decreases-loop
 add_row c =
-    let a = c.before.before.before.before.before.args in
-    let l = c.before.before.before.loop in
+    let a = c.args in
+    let l = c.loop-opponent in
     omega (
       arith,
       row-most (opposition_of a.own a.other a.i) (λ k. product-most a.own a.other a.i k) l.rest a.other l.row a.row.now
           l.invariant.2 l.opponent,
-      c.before.before.before.before.before.requires.1 l.opponent,
+      c.requires.1 l.opponent,
       product-most a.own a.other a.i l.opponent,
-      c.before.in-opposition.ensures,
+      c.in_opposition.ensures,
     )
 
-loop-again : tie.Need-loop-preserved invariant-loop decreases-loop
+loop-again : tie.Need-loop-opponent-preserved invariant-loop decreases-loop
 loop-again c =
-    let a = c.before.before.before.before.before.before.before.args in
-    let l = c.before.before.before.before.before.loop in
-    let less = rest-less l.rest (some c.before.before.before.before) in
-    let rest = c.before.without-lowest.ensures in (
-      c.lowest2.ensures,
+    let a = c.args in
+    let l = c.loop-opponent in
+    let less = rest-less l.rest (some c.before.before.before.before.before) in
+    let rest = c.without_lowest-rest.ensures in (
+      c.lowest-opponent-in-loop-opponent.ensures,
       omega arith,
-      walk_step (λ k x. x + opposition_of a.own a.other a.i k) l.rest l.row 0 (some c.before.before.before.before) (omega arith)
+      walk_step (λ k x. x + opposition_of a.own a.other a.i k) l.rest l.row 0 (some c.before.before.before.before.before) (omega arith)
           l.invariant.0 rest
-          (ap (λ (y : ℕ). get_or l.row l.opponent 0 + y) c.before.before.before.in-opposition.ensures) l.invariant.2,
+          (ap (λ (y : ℕ). get_or l.row l.opponent 0 + y) c.in_opposition.ensures) l.invariant.2,
     )
 
 returns : tie.Need-returns invariant-loop decreases-loop
 returns c =
-    let a = c.before.before.before.args in
-    let l = c.before.loop in
+    let a = c.args in
+    let l = c.loop-opponent in
     let none : l.rest ≡ 0 = none_left l.rest (omega arith) (omega arith) in
     walk_end (λ k x. x + opposition_of a.own a.other a.i k) a.other l.row a.row.now (λ k x e. rw e (omega arith)) (rw none at l.invariant.2)
 
@@ -74,11 +74,11 @@ add_opponents_spec =
     loop-holds
     (λ c κs. search rules)
     (λ c. omega (arith, column c.before))
-    (λ c. omega (arith, column c.before))
-    add_row
     (λ c. omega (arith, column c.before.before))
+    add_row
+    (λ c. omega (arith, column c.before.before.before))
     (λ c κs. search rules)
     (λ c κs. search rules)
-    (λ c. omega (arith, rest-less _ (some c.before.before.before.before)))
+    (λ c. omega (arith, rest-less _ (some c.before.before.before.before.before)))
     loop-again
     returns)

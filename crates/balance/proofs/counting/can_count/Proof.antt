@@ -9,30 +9,30 @@ use Rattle.balance.proofs.counting.Countable.{is-countable, not-countable}
 use Rattle.balance.proofs.counting.can_count.Statement.{statement}
 use Rattle.balance.proofs.counting.can_count.Tie as tie
 
-abbrev invariant-loop : tie.invariant-loop
+abbrev invariant-loop : tie.invariant-loop-c
 invariant-loop words b c₀ c-end c = (b ≤ 1300) × (2 * b ≤ length words) × (c-end ≡ 2 * b) × (c ≤ c-end) × ((k : ℕ) → k < c → get_or words k 0 < 2 ^ 50)
 
-abbrev decreases-loop : tie.decreases-loop
+abbrev decreases-loop : tie.decreases-loop-c
 decreases-loop words b c₀ c-end c = c-end - c
 
-returns : tie.Need-returns invariant-loop decreases-loop
+returns : tie.Need-returns-then-b-gt1300 invariant-loop decreases-loop
 returns c = sym (not-countable _ _ (λ k. omega (arith, k.blocks-most)))
 
-returns-2 : tie.Need-returns-2 invariant-loop decreases-loop
+returns-2 : tie.Need-returns-then-words-b invariant-loop decreases-loop
 returns-2 c = sym (not-countable _ _ (λ k. omega (arith, k.words_long)))
 
-loop-holds : tie.Need-loop-init invariant-loop decreases-loop
+loop-holds : tie.Need-loop-c-init invariant-loop decreases-loop
 loop-holds c = (omega arith, omega arith, omega arith, omega arith, λ k l. absurd (omega arith))
 
-returns-3 : tie.Need-returns-3 invariant-loop decreases-loop
-returns-3 c = sym (not-countable _ _ (λ k. omega (arith, k.below c.before.before.before.loop.c (omega arith))))
+returns-3 : tie.Need-returns-then-words-c-ge1125899906842624 invariant-loop decreases-loop
+returns-3 c = sym (not-countable _ _ (λ k. omega (arith, k.below c.loop-c.c (omega arith))))
 
-loop-again : tie.Need-loop-preserved invariant-loop decreases-loop
-loop-again c = (omega arith, omega arith, omega arith, omega arith, below_more _ _ c.before.before.before.loop.invariant.4 (omega arith))
+loop-again : tie.Need-loop-c-preserved invariant-loop decreases-loop
+loop-again c = (omega arith, omega arith, omega arith, omega arith, below_more _ _ c.loop-c.invariant.4 (omega arith))
 
-returns-4 : tie.Need-returns-4 invariant-loop decreases-loop
+returns-4 : tie.Need-returns invariant-loop decreases-loop
 returns-4 c =
-    let i = c.before.loop.invariant in
+    let i = c.loop-c.invariant in
     sym (is-countable _ _ (record { blocks-most = i.0; words_long = i.1; below = λ k l. i.4 k (omega arith) }))
 
 pub can_count_spec : {M : Type 1} → statement M

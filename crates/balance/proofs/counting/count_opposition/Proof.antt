@@ -18,43 +18,43 @@ use borrow.Author.Rules.{rules}
 use Rattle.balance.proofs.counting.count_opposition.Statement.{statement}
 use Rattle.balance.proofs.counting.count_opposition.Tie as tie
 
-abbrev invariant-loop : tie.invariant-loop
+abbrev invariant-loop : tie.invariant-loop-k
 invariant-loop words b table₀ k₀ table k = (k ≤ b) × (countable words b ≡ true) × (table ≡ table_more (tally true words k) no_table)
 
-abbrev decreases-loop : tie.decreases-loop
+abbrev decreases-loop : tie.decreases-loop-k
 decreases-loop words b table₀ k₀ table k = b - k
 
-returns : tie.Need-returns invariant-loop decreases-loop
-returns c = counted_no _ _ true (sym c.before.can-count.ensures ∙ not-true _ c.if1.true) refl
+returns : tie.Need-returns-then-not-can_count invariant-loop decreases-loop
+returns c = counted_no _ _ true (sym c.can_count.ensures ∙ not-true _ c.if-not-can_count.true-raw) refl
 
-loop-holds : tie.Need-loop-init invariant-loop decreases-loop
-loop-holds c = (search rules, sym c.before.can-count.ensures ∙ not-false _ c.if1.false, filled_none _ _ refl)
+loop-holds : tie.Need-loop-k-init invariant-loop decreases-loop
+loop-holds c = (search rules, sym c.can_count.ensures ∙ not-false _ c.if-not-can_count.false-raw, filled_none _ _ refl)
 
 -- within the loop the words can be counted, and the table has room for a block more
-module _ (c : tie.In-loop invariant-loop decreases-loop) where
+module _ (c : tie.In-loop-k invariant-loop decreases-loop) where
   abbrev start : tie.Start invariant-loop decreases-loop
   start = c.before.before.before.before.before
 
   can : Countable start.args.words.now start.args.b
-  can = countable-is _ _ c.before.loop.invariant.1
+  can = countable-is _ _ c.loop-k.invariant.1
 
-  table-most : (i j : ℕ) → entry c.before.loop.table i j ≤ 2598
-  table-most i j = let w = can.blocks-most in omega (arith, filled_most _ _ c.before.loop.k c.before.loop.invariant.2 i j)
+  table-most : (i j : ℕ) → entry c.loop-k.table i j ≤ 2598
+  table-most i j = let w = can.blocks-most in omega (arith, filled_most _ _ c.loop-k.k c.loop-k.invariant.2 i j)
 
-add_opposition_requires : tie.Need-add-opposition-requires invariant-loop decreases-loop
+add_opposition_requires : tie.Need-add_opposition-requires invariant-loop decreases-loop
 add_opposition_requires c κs =
     let o = c.before.before.before in
-    let l = c.before.before.before.before.loop in
+    let l = c.loop-k in
     (((can o).below (2 * l.k) (omega arith), (can o).below (2 * l.k + 1) (omega arith)), λ i j. omega (arith, table-most o i j))
 
-add_opposition_requires_2 : tie.Need-add-opposition-requires-2 invariant-loop decreases-loop
+add_opposition_requires_2 : tie.Need-add_opposition-requires-in-loop-k invariant-loop decreases-loop
 add_opposition_requires_2 c κs =
     let s = c.before.before.before.before.before.before.before.before.before.before in
     let o = c.before.before.before.before.before in
-    let l = c.before.before.before.before.before.before.loop in
+    let l = c.loop-k in
     let left = get_or s.args.words.now (2 * l.k) 0 in
     let right = get_or s.args.words.now (2 * l.k + 1) 0 in
-    let e = c.before.add-opposition.ensures in (
+    let e = c.add_opposition.ensures in (
       ((can o).below (2 * l.k + 1) (omega arith), (can o).below (2 * l.k) (omega arith)),
       λ i j. omega (
         arith,
@@ -65,19 +65,19 @@ add_opposition_requires_2 c κs =
       ),
     )
 
-loop-again : tie.Need-loop-preserved invariant-loop decreases-loop
+loop-again : tie.Need-loop-k-preserved invariant-loop decreases-loop
 loop-again c =
-    let l = c.before.before.before.before.before.before.before.loop in (
+    let l = c.loop-k in (
       search rules,
       l.invariant.1,
-      filled_more _ _ l.k _ _ (λ i j. omega arith) l.invariant.2 c.before.before.add-opposition.ensures
-          c.add-opposition2.ensures,
+      filled_more _ _ l.k _ _ (λ i j. omega arith) l.invariant.2 c.add_opposition.ensures
+          c.add_opposition-in-loop-k.ensures,
     )
 
-returns-2 : tie.Need-returns-2 invariant-loop decreases-loop
+returns-2 : tie.Need-returns invariant-loop decreases-loop
 returns-2 c =
-    let l = c.before.loop in
-    let e : l.k ≡ c.before.before.before.before.before.args.b = omega arith in
+    let l = c.loop-k in
+    let e : l.k ≡ c.args.b = omega arith in
     counted_yes _ _ true l.invariant.1 (rw (← e) l.invariant.2)
 
 pub count_opposition_spec : {M : Type 1} → statement M

@@ -16,38 +16,38 @@ use Rattle.balance.proofs.differences.judge_by_differences.Statement.{statement}
 use Rattle.balance.proofs.differences.judge_by_differences.Tie as tie
 
 -- the verdict that was counted under is that of the block list
-verdict : (c : tie.After-count-differences) → c.count-differences.result.verdict ≡ design_verdict c.before.before.args.head
-    c.before.before.args.blocks.now
-verdict c = ap (λ (x : Differences). x.verdict) c.count-differences.ensures
+verdict : (c : tie.After-count_differences-counted) → c.count_differences-counted.result.verdict ≡ design_verdict c.args.head
+    c.args.blocks.now
+verdict c = ap (λ (x : Differences). x.verdict) c.count_differences-counted.ensures
 
 -- past the refusal, it is accepted
-passed : (c : tie.Else1) → design_verdict c.before.before.before.before.args.head c.before.before.before.before.args.blocks.now ≡ accepted
-passed c = sym (verdict c.before.before) ∙ accepting _ (sym c.before.is-refused.ensures ∙ c.if1.false)
+passed : (c : tie.Else-is_refused) → design_verdict c.args.head c.args.blocks.now ≡ accepted
+passed c = sym (verdict c.before.before) ∙ accepting _ (sym c.is_refused.ensures ∙ c.if-is_refused.false)
 
 -- the objects are counted
-v : (c : tie.After-objects) → c.objects.result ≡ objects c.before.before.before.before.before.args.head
-v c = c.objects.ensures ∙ within-sizes _ _ (sound _ _ (passed c.before)).sizes
+v : (c : tie.After-objects-v) → c.objects-v.result ≡ objects c.args.head
+v c = c.objects-v.ensures ∙ within-sizes _ _ (sound _ _ (passed c.before)).sizes
 
-returns : tie.Need-returns
-returns c = c.no-judgement.ensures
-    ∙ search (judged-refused _ _ _ (verdict c.before.before.before) (sym c.before.before.is-refused.ensures ∙ c.before.if1.true))
+returns : tie.Need-returns-then-is_refused
+returns c = c.no_judgement.ensures
+    ∙ search (judged-refused _ _ _ (verdict c.before.before.before) (sym c.is_refused.ensures ∙ c.if-is_refused.true))
 
-mul_b : tie.Need-overflow-mul-b
+mul_b : tie.Need-overflow_mul-b
 mul_b c = let f = (sound _ _ (passed c.before.before)).sizes in omega arith
 
-judge_rows_requires : tie.Need-judge-rows-requires
+judge_rows_requires : tie.Need-judge_rows-requires
 judge_rows_requires c κs =
     let at = c.before.before.before in
     let e = passed at.before in
     let f = (sound _ _ e).sizes in
-    (omega (arith, v at), omega (arith, v at), search (one-most _ _ e at.before.before.before.count-differences.ensures))
+    (omega (arith, v at), omega (arith, v at), search (one-most _ _ e at.count_differences-counted.ensures))
 
-returns-2 : tie.Need-returns-2
+returns-2 : tie.Need-returns
 returns-2 c =
     let at = c.before.before.before.before in
     let e = passed at.before in
-    let counted = at.before.before.before.count-differences.ensures in
-    c.judge-rows.ensures ∙ search (rows-judged _ _ e counted _ (v at))
+    let counted = at.count_differences-counted.ensures in
+    c.judge_rows.ensures ∙ search (rows-judged _ _ e counted _ (v at))
 
 pub judge_by_differences_spec : {M : Type 1} → statement M
 judge_by_differences_spec =

@@ -6,7 +6,7 @@ use Rattle.balance.proofs.differences.judge_rows.Statement.{statement}
 use Rattle.balance.proofs.differences.judge_rows.Tie as tie
 
 returns : tie.Need-returns
-returns c = search (rw c.before.row-even.ensures at c.judgement.ensures)
+returns c = search (rw c.row_even-even.ensures at c.judgement.ensures)
 
 pub judge_rows_spec : {M : Type 1} → statement M
 judge_rows_spec =

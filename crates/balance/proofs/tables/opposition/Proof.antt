@@ -10,30 +10,30 @@ use borrow.Author.Rules.{rules}
 use Rattle.balance.proofs.tables.opposition.Statement.{statement}
 use Rattle.balance.proofs.tables.opposition.Tie as tie
 
-abbrev start : tie.After-develop → tie.Start
+abbrev start : tie.After-develop-verdict → tie.Start
 start c = c.before.before.before
 
 -- the development's verdict is that of the block list
-verdict : (c : tie.After-develop) → c.develop.result ≡ design_verdict (start c).args.head (start c).args.blocks.now
-verdict c = c.develop.ensures.0 ∙ room_enough _ _
+verdict : (c : tie.After-develop-verdict) → c.develop-verdict.result ≡ design_verdict (start c).args.head (start c).args.blocks.now
+verdict c = c.develop-verdict.ensures.0 ∙ room_enough _ _
 
-abbrev else1-start : tie.Else1 → tie.Start
+abbrev else1-start : tie.Else-is_refused → tie.Start
 else1-start c = c.before.before.before.before.before.before
 
 -- past the refusal, the block list is accepted
-passed : (c : tie.Else1) → design_verdict (else1-start c).args.head
+passed : (c : tie.Else-is_refused) → design_verdict (else1-start c).args.head
     (else1-start c).args.blocks.now ≡ accepted
-passed c = sym (verdict c.before.before.before) ∙ accepting _ (sym c.before.is-refused.ensures ∙ c.if1.false)
+passed c = sym (verdict c.before.before.before) ∙ accepting _ (sym c.is_refused.ensures ∙ c.if-is_refused.false)
 
-returns : tie.Need-returns
-returns c = sym (given_no _ _ no_table _ _ (sym (verdict c.before.before.before) ∙ refusing _ (sym c.before.is-refused.ensures ∙ c.if1.true)))
+returns : tie.Need-returns-then-is_refused
+returns c = sym (given_no _ _ no_table _ _ (sym (verdict c.before.before.before) ∙ refusing _ (sym c.is_refused.ensures ∙ c.if-is_refused.true)))
 
-mul_b : tie.Need-overflow-mul-b
+mul_b : tie.Need-overflow_mul-b
 mul_b c = let f = (sound _ _ (passed c.before)).sizes in omega arith
 
-returns-2 : tie.Need-returns-2
-returns-2 c = rw c.count-opposition.ensures
-    (search (opposition-table _ _ _ refl c.before.before.before.before.before.before.develop.ensures.1 (passed c.before.before.before)))
+returns-2 : tie.Need-returns
+returns-2 c = rw c.count_opposition.ensures
+    (search (opposition-table _ _ _ refl c.develop-verdict.ensures.1 (passed c.before.before.before)))
 
 pub opposition_spec : {M : Type 1} → statement M
 opposition_spec =

@@ -15,71 +15,71 @@ use borrow.Author.Rules.{rules}
 use Rattle.balance.proofs.verdict.judge.Statement.{statement}
 use Rattle.balance.proofs.verdict.judge.Tie as tie
 
-abbrev start : tie.After-develop → tie.Start
+abbrev start : tie.After-develop-verdict → tie.Start
 start c = c.before.before.before
 
 -- the development's verdict is that of the block list
-verdict : (c : tie.After-develop) → c.develop.result ≡ design_verdict (start c).args.head (start c).args.blocks.now
-verdict c = c.develop.ensures.0 ∙ room_enough _ _
+verdict : (c : tie.After-develop-verdict) → c.develop-verdict.result ≡ design_verdict (start c).args.head (start c).args.blocks.now
+verdict c = c.develop-verdict.ensures.0 ∙ room_enough _ _
 
-abbrev else1-start : tie.Else1 → tie.Start
+abbrev else1-start : tie.Else-is_refused → tie.Start
 else1-start c = c.before.before.before.before.before.before
 
 -- past the refusal, the block list is accepted
-passed : (c : tie.Else1) → design_verdict (else1-start c).args.head
+passed : (c : tie.Else-is_refused) → design_verdict (else1-start c).args.head
     (else1-start c).args.blocks.now ≡ accepted
-passed c = sym (verdict c.before.before.before) ∙ accepting _ (sym c.before.is-refused.ensures ∙ c.if1.false)
+passed c = sym (verdict c.before.before.before) ∙ accepting _ (sym c.is_refused.ensures ∙ c.if-is_refused.false)
 
 -- the objects are counted, and both tables are the design's
-module _ (c : tie.After-count-opposition) where
+module _ (c : tie.After-count_opposition-opposition) where
   abbrev count_opposition_start : tie.Start
   count_opposition_start = c.before.before.before.before.before.before.before.before.before.before.before.before.before
 
-  abbrev at_develop : tie.After-develop
+  abbrev at_develop : tie.After-develop-verdict
   at_develop = c.before.before.before.before.before.before.before.before.before.before
 
-  abbrev at-objects : tie.After-objects
+  abbrev at-objects : tie.After-objects-v
   at-objects = c.before.before.before.before.before.before
 
-  v : at-objects.objects.result ≡ objects
+  v : at-objects.objects-v.result ≡ objects
       count_opposition_start.args.head
-  v = at-objects.objects.ensures
+  v = at-objects.objects-v.ensures
       ∙ within-sizes _ _ (sound _ _ (passed c.before.before.before.before.before.before.before)).sizes
 
-  company : c.before.before.count-company.result ≡ company_table
+  company : c.count_company-company.result ≡ company_table
       count_opposition_start.args.head
       count_opposition_start.args.blocks.now
-  company = c.before.before.count-company.ensures
-      ∙ company-table _ _ _ refl at_develop.develop.ensures.1
+  company = c.count_company-company.ensures
+      ∙ company-table _ _ _ refl at_develop.develop-verdict.ensures.1
       (passed c.before.before.before.before.before.before.before)
 
-  opposition : c.count-opposition.result ≡ opposition_table
+  opposition : c.count_opposition-opposition.result ≡ opposition_table
       count_opposition_start.args.head
       count_opposition_start.args.blocks.now
-  opposition = c.count-opposition.ensures
-      ∙ opposition-table _ _ _ refl at_develop.develop.ensures.1
+  opposition = c.count_opposition-opposition.ensures
+      ∙ opposition-table _ _ _ refl at_develop.develop-verdict.ensures.1
       (passed c.before.before.before.before.before.before.before)
 
-returns : tie.Need-returns
-returns c = c.no-judgement.ensures
-    ∙ search (judged-refused _ _ _ (verdict c.before.before.before.before) (sym c.before.before.is-refused.ensures ∙ c.before.if1.true))
+returns : tie.Need-returns-then-is_refused
+returns c = c.no_judgement.ensures
+    ∙ search (judged-refused _ _ _ (verdict c.before.before.before.before) (sym c.is_refused.ensures ∙ c.if-is_refused.true))
 
-mul_b : tie.Need-overflow-mul-b
+mul_b : tie.Need-overflow_mul-b
 mul_b c = let f = (sound _ _ (passed c.before.before)).sizes in omega arith
 
-judge_tables_requires : tie.Need-judge-tables-requires
+judge_tables_requires : tie.Need-judge_tables-requires
 judge_tables_requires c κs =
     let f = (sound _ _ (passed c.before.before.before.before.before.before.before)).sizes in
     (omega (arith, v c), omega (arith, v c), first-most _ _ (passed c.before.before.before.before.before.before.before) (company c) (opposition c))
 
-returns-2 : tie.Need-returns-2
+returns-2 : tie.Need-returns
 returns-2 c =
     let e = passed c.before.before.before.before.before.before.before.before in
     let t = c.before in
-    let p = c.before.before.before.before.before.ones.ensures
+    let p = c.ones-p.ensures
     ∙ side-size _ _ e _ refl (words_left _ _ _ refl
-    c.before.before.before.before.before.before.before.before.before.before.before.develop.ensures.1 e) in
-    c.judge-tables.ensures
+    c.develop-verdict.ensures.1 e) in
+    c.judge_tables.ensures
     ∙ judged-accepted _ _ (tables_even _ _ _ _) _ _ _ _ e (v t) (tables_tell _ _ e (company t) (opposition t)) p (company-first _ _ e (company t) (opposition t))
     (opposition-first _ _ e (company t) (opposition t))
 

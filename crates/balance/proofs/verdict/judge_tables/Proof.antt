@@ -6,7 +6,7 @@ use Rattle.balance.proofs.verdict.judge_tables.Statement.{statement}
 use Rattle.balance.proofs.verdict.judge_tables.Tie as tie
 
 returns : tie.Need-returns
-returns c = search (rw c.before.tables-even.ensures at c.judgement.ensures)
+returns c = search (rw c.tables_even-even.ensures at c.judgement.ensures)
 
 pub judge_tables_spec : {M : Type 1} → statement M
 judge_tables_spec =

@@ -9,20 +9,20 @@ use borrow.Author.Rules.{rules}
 use Rattle.balance.proofs.verdict.judgement.Statement.{statement}
 use Rattle.balance.proofs.verdict.judgement.Tie as tie
 
-returns : tie.Need-returns
-returns c = uneven_judged _ _ _ _ _ (not-true _ c.before.if1.true) (search rules)
+returns : tie.Need-returns-then-not-even
+returns c = uneven_judged _ _ _ _ _ (not-true _ c.if-not-even.true-raw) (search rules)
 
-mul_r : tie.Need-overflow-mul-r
+mul_r : tie.Need-overflow_mul-r
 mul_r c =
-    let f = c.before.before.requires in
-    let x : c.less.result ≤ 2600 = omega (arith, c.less.ensures) in
-    let y : c.before.before.args.v - 1 ≤ 49 = omega arith in
+    let f = c.requires in
+    let x : c.less-beta.result ≤ 2600 = omega (arith, c.less-beta.ensures) in
+    let y : c.args.v - 1 ≤ 49 = omega arith in
     omega (arith, mul-le-mul x y)
 
-returns-2 : tie.Need-returns-2
+returns-2 : tie.Need-returns
 returns-2 c =
-    even-judged _ _ _ _ _ _ _ _ _ _ _ (not-false _ c.before.if1.false)
-    (search rules) (search rules) (rw c.less.ensures (search rules)) (search rules) (search rules) (search rules)
+    even-judged _ _ _ _ _ _ _ _ _ _ _ (not-false _ c.if-not-even.false-raw)
+    (search rules) (search rules) (rw c.less-beta.ensures (search rules)) (search rules) (search rules) (search rules)
 
 pub judgement_spec : {M : Type 1} → statement M
 judgement_spec =

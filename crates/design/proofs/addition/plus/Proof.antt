@@ -31,4 +31,4 @@ returns-2 c = rw (sym c.by_field.ensures ∙ c.if-by_field.false)
 pub plus_spec : {M : Type 1} → statement M
 plus_spec =
     tie.close
-    (tie.spec (λ c κs. search rules) mul_at add_at (λ c. omega (arith, place c)) (λ c κs. search rules) (λ c. search rules) (λ c. search rules) returns returns-2)
+    (tie.spec (λ c κs. search rules) mul_at add_at (λ c. omega (arith, place c.before)) (λ c κs. search rules) (λ c. search rules) (λ c. search rules) returns returns-2)

@@ -14,10 +14,10 @@ returns : tie.Need-returns-then-in_range
 returns c =
     let a = c.args in
     let back : a.i - (a.i - a.i % (2 * a.head.p)) ≡ a.i % (2 * a.head.p) = omega (arith, mod-le a.i (2 * a.head.p)) in
-    rw (sym c.before.before.before.in_range_lem.ensures ∙ c.if-in_range.true) (rw back at c.stands_among.ensures)
+    rw (sym c.in_range.ensures ∙ c.if-in_range.true) (rw back at c.stands_among.ensures)
 
 returns-2 : tie.Need-returns-else-in_range
-returns-2 c = rw (sym c.before.in_range_lem.ensures ∙ c.if-in_range.false)
+returns-2 c = rw (sym c.in_range.ensures ∙ c.if-in_range.false)
 
 pub offends_spec : {M : Type 1} → statement M
 offends_spec =

@@ -63,7 +63,7 @@ returns-3 c =
     let a = c.args in
     let e = passed c.before.before in
     let j = lt-ltb a.j a.head.m (search rules) in
-    let r = lt-leb (2 * (a.head.m * a.head.n)) (length a.words-1.now) (search rules) in
+    let r = lt-leb (2 * (a.head.m * a.head.n)) (length a.words.now) (search rules) in
     (rw (e, j, r) (search rules), rw (e, j, r) (search rules))
 
 mul_first : tie.Need-overflow_mul-first
@@ -98,7 +98,7 @@ returns-4 c =
     let r = le-leb _ _ c.if-words-room.false in (
       rw (e, j, r) (search rules),
       rw (e, j, r)
-          (lent_back (2 * a.head.n * a.j) (2 * a.head.n) _ a.words-1.now c.write_shifts.ensures),
+          (lent_back (2 * a.head.n * a.j) (2 * a.head.n) _ a.words.now c.write_shifts.ensures),
     )
 
 pub develop_initial_spec : {M : Type 1} → statement M

@@ -6,7 +6,7 @@ use lib.ListN.{length, length-take, length-drop}
 use native.Mathlib.Nat.{mul-zero}
 use Rattle.meaning.specs.Calls.{word_at}
 use Rattle.algebra.specs.Buffers.{over}
-use Rattle.algebra.proofs.Filling.{over_none, over-end, over-lent}
+use Rattle.algebra.proofs.Filling.{over_none, over-end, over-lent, over-long}
 use Rattle.laws.proofs.Chains.{sound}
 use Rattle.design.proofs.development.Parts.{part_in, part-next, twice}
 use native.Mathlib.Omega.{arith}
@@ -60,9 +60,9 @@ loop-again : tie.Need-loop-j-preserved invariant-loop decreases-loop
 loop-again c =
     let l = c.loop-j in
     let a = c.args in
-    let back = over-lent (2 * a.head.n * l.j) (2 * a.head.n) _ (word_at a.head a.blocks.now) a.words-1.now l.invariant.2
+    let back = over-lent (2 * a.head.n * l.j) (2 * a.head.n) _ (word_at a.head a.blocks.now) a.words.now l.invariant.2
     c.write_shifts.ensures (λ i h. refl) in
-    (search rules, c.words-1.given.1 ∙ l.invariant.1, over-end _ _ back (part-next (2 * a.head.n) l.j))
+    (search rules, over-long _ _ _ _ back, over-end _ _ back (part-next (2 * a.head.n) l.j))
 
 returns : tie.Need-returns invariant-loop decreases-loop
 returns c =

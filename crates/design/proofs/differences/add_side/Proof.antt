@@ -89,7 +89,7 @@ add_side_spec =
     (λ c. search rules)
     object_of_requires
     (λ c. omega (arith, object c))
-    (λ c. omega (arith, object (known c), long (known c)))
+    (λ c. omega (arith, object c.before, long c.before))
     add_counts
     (λ c. omega (arith, object (known c), long (known c)))
     (λ c. search rules)

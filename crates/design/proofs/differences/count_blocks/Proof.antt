@@ -37,8 +37,8 @@ count_block_requires c κs =
       s.requires.0,
       c.card_of-card.ensures,
       search rules,
-      blocks-row (within_of h d) l.j l.within-1 few l.invariant.1 (λ e q m. within-most h d design e q (omega arith)),
-      blocks-row (across_of h d) l.j l.across-1 few l.invariant.2 (λ e q m. across-most h d design e q (omega arith)),
+      blocks-row (within_of h d) l.j l.within few l.invariant.1 (λ e q m. within-most h d design e q (omega arith)),
+      blocks-row (across_of h d) l.j l.across few l.invariant.2 (λ e q m. across-most h d design e q (omega arith)),
     )
 
 loop-again : tie.Need-loop-j-preserved invariant-loop decreases-loop
@@ -47,8 +47,8 @@ loop-again c =
     let l = c.loop-j in
     let one = c.count_block.ensures in (
       search rules,
-      more-twice _ _ _ no_row l.within-1 _ l.invariant.1 one.0 (λ e. sumℕ-more l.j (within_of a.head a.blocks.now e)),
-      more-twice _ _ _ no_row l.across-1 _ l.invariant.2 one.1 (λ e. sumℕ-more l.j (across_of a.head a.blocks.now e)),
+      more-twice _ _ _ no_row l.within _ l.invariant.1 one.0 (λ e. sumℕ-more l.j (within_of a.head a.blocks.now e)),
+      more-twice _ _ _ no_row l.across _ l.invariant.2 one.1 (λ e. sumℕ-more l.j (across_of a.head a.blocks.now e)),
     )
 
 same_length : tie.Need-shape_of-within invariant-loop decreases-loop
@@ -65,8 +65,8 @@ returns c =
     let l = c.loop-j in
     let design = sound h d s.requires.0 in
     let e : l.j ≡ h.m = omega arith in (
-      search (company-row h d design l.within-1 (subst (λ (k : ℕ). More (λ e. sum_ℕ k (within_of h d e)) no_row l.within-1) e l.invariant.1)),
-      search (opposition-row h d design l.across-1 (subst (λ (k : ℕ). More (λ e. sum_ℕ k (across_of h d e)) no_row l.across-1) e l.invariant.2)),
+      search (company-row h d design l.within (subst (λ (k : ℕ). More (λ e. sum_ℕ k (within_of h d e)) no_row l.within) e l.invariant.1)),
+      search (opposition-row h d design l.across (subst (λ (k : ℕ). More (λ e. sum_ℕ k (across_of h d e)) no_row l.across) e l.invariant.2)),
     )
 
 pub count_blocks_spec : {M : Type 1} → statement M

@@ -34,9 +34,9 @@ count_one_requires c κs =
     let l = c.loop-k in
     let more : l.k < length s.args.own.now = omega arith in
     let few : length (take l.k s.args.own.now) ≤ 25 = omega (arith, length-take-le l.k s.args.own.now l.invariant.0, s.requires.2.few) in
-    let own = row-still _ 100000 625 200000 s.args.within.now l.within-1 s.requires.4 l.invariant.2
+    let own = row-still _ 100000 625 200000 s.args.within.now l.within s.requires.4 l.invariant.2
     (λ e. met-most s.args.head e s.args.own.now (take l.k s.args.own.now) s.requires.2.few few) (omega arith) in
-    let other = row-still _ 100000 625 200000 s.args.across.now l.across-1 s.requires.5 l.invariant.3
+    let other = row-still _ 100000 625 200000 s.args.across.now l.across s.requires.5 l.invariant.3
     (λ e. met-most s.args.head e s.args.other.now (take l.k s.args.own.now) s.requires.3.few few) (omega arith) in
     (s.requires.0, s.requires.1, s.requires.2.ranged l.k more, s.requires.2, s.requires.3, own, other)
 
@@ -48,8 +48,8 @@ loop-again c =
     let one = c.count_one.ensures in (
       search rules,
       search rules,
-      more-twice _ _ _ a.within-1.now l.within-1 _ l.invariant.2 one.0 (λ e. met_next a.head e a.own.now a.own.now l.k more),
-      more-twice _ _ _ a.across-1.now l.across-1 _ l.invariant.3 one.1 (λ e. met_next a.head e a.other.now a.own.now l.k more),
+      more-twice _ _ _ a.within.now l.within _ l.invariant.2 one.0 (λ e. met_next a.head e a.own.now a.own.now l.k more),
+      more-twice _ _ _ a.across.now l.across _ l.invariant.3 one.1 (λ e. met_next a.head e a.other.now a.own.now l.k more),
     )
 
 returns : tie.Need-returns invariant-loop decreases-loop
@@ -57,8 +57,8 @@ returns c =
     let a = c.args in
     let l = c.loop-k in
     let whole : take l.k a.own.now ≡ a.own.now = take_all l.k a.own.now (omega arith) in (
-      search (subst (λ (ys : List ℕ). More (λ e. met a.head e a.own.now ys) a.within-1.now l.within-1) whole l.invariant.2),
-      search (subst (λ (ys : List ℕ). More (λ e. met a.head e a.other.now ys) a.across-1.now l.across-1) whole l.invariant.3),
+      search (subst (λ (ys : List ℕ). More (λ e. met a.head e a.own.now ys) a.within.now l.within) whole l.invariant.2),
+      search (subst (λ (ys : List ℕ). More (λ e. met a.head e a.other.now ys) a.across.now l.across) whole l.invariant.3),
     )
 
 pub count_from_spec : {M : Type 1} → statement M

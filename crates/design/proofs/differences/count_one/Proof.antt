@@ -12,7 +12,7 @@ use Rattle.design.proofs.differences.count_one.Tie as tie
 returns : tie.Need-returns-then-byte-eq255
 returns c =
     let a = c.args in
-    (from_fixed a.head a.byte a.own.now a.within-1.now c.if-byte-eq255.true, from_fixed a.head a.byte a.other.now a.across-1.now c.if-byte-eq255.true)
+    (from_fixed a.head a.byte a.own.now a.within.now c.if-byte-eq255.true, from_fixed a.head a.byte a.other.now a.across.now c.if-byte-eq255.true)
 
 -- past ∞ the byte is an element
 element : (c : tie.Else-byte-eq255) → c.args.byte < c.args.head.n

@@ -21,7 +21,7 @@ returns-3 c = sized_no _ (λ f. omega arith)
 
 returns-4 : tie.Need-returns-then-not-has_addition
 returns-4 c =
-    let none = sym c.before.has_addition_lem.ensures ∙ not-true _ c.if-not-has_addition.true-raw in
+    let none = sym c.has_addition.ensures ∙ not-true _ c.if-not-has_addition.true-raw in
     sized_no _ (λ f. false≢true (sym none ∙ f.has_addition_lem))
 
 returns-5 : tie.Need-returns-then-v-gt50
@@ -52,7 +52,7 @@ returns-10 c = sized_no _ (λ f. omega arith)
 returns-11 : tie.Need-returns
 returns-11 c =
     let e = c.before.before.before.before.before.before.before in
-    let some = sym e.before.has_addition_lem.ensures ∙ not-false _ e.if-not-has_addition.false-raw in
+    let some = sym e.has_addition.ensures ∙ not-false _ e.if-not-has_addition.false-raw in
     sized_yes _ (record {
       n_least = search rules;
       n_most = search rules;

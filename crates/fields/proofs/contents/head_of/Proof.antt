@@ -6,7 +6,7 @@ use Rattle.fields.proofs.contents.head_of.Statement.{statement}
 use Rattle.fields.proofs.contents.head_of.Tie as tie
 
 returns : tie.Need-returns
-returns c = head-is c.before.before.before.before.before.args.bytes.now _ _ _ _ (search rules) (search rules) (search rules) (search rules)
+returns c = head-is c.args.bytes.now _ _ _ _ (search rules) (search rules) (search rules) (search rules)
 
 pub head_of_spec : {M : Type 1} → statement M
 head_of_spec =

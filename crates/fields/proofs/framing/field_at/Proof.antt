@@ -6,34 +6,34 @@ use Rattle.fields.proofs.framing.Answers.{no_start, wrong_tag, wrong_length, no_
 use Rattle.fields.proofs.framing.field_at.Statement.{statement}
 use Rattle.fields.proofs.framing.field_at.Tie as tie
 
-returns : tie.Need-returns
+returns : tie.Need-returns-then-bytes-lt3
 returns c =
-    let a = c.before.before.args in
+    let a = c.args in
     rw (no_start a.bytes.now a.place a.tag a.length (omega arith)) (search rules)
 
-returns-2 : tie.Need-returns-2
+returns-2 : tie.Need-returns-then-bytes-place
 returns-2 c =
-    let a = c.before.before.before.args in
+    let a = c.args in
     rw (no_start a.bytes.now a.place a.tag a.length (omega arith)) (search rules)
 
-returns-3 : tie.Need-returns-3
+returns-3 : tie.Need-returns-then-found-tag
 returns-3 c =
-    let a = c.before.before.before.before.before.before.args in
+    let a = c.args in
     rw (wrong_tag a.bytes.now a.place a.tag a.length (omega arith) (λ e. omega arith)) (search rules)
 
-returns-4 : tie.Need-returns-4
+returns-4 : tie.Need-returns-then-told-length
 returns-4 c =
-    let a = c.before.before.before.before.before.before.before.args in
+    let a = c.args in
     rw (wrong_length a.bytes.now a.place a.tag a.length (omega arith) (omega arith) (λ e. omega arith)) (search rules)
 
-returns-5 : tie.Need-returns-5
+returns-5 : tie.Need-returns-then-length-bytes
 returns-5 c =
-    let a = c.before.before.before.before.before.before.before.before.args in
+    let a = c.args in
     rw (whole a.bytes.now a.place a.tag a.length (omega arith) (omega arith) (omega arith) (omega arith)) (search rules)
 
-returns-6 : tie.Need-returns-6
+returns-6 : tie.Need-returns
 returns-6 c =
-    let a = c.before.before.before.before.before.before.before.before.args in
+    let a = c.args in
     rw (no_body a.bytes.now a.place a.tag a.length (omega arith) (omega arith) (omega arith) (omega arith)) (search rules)
 
 pub field_at_spec : {M : Type 1} → statement M

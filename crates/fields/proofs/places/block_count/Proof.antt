@@ -8,17 +8,17 @@ use Rattle.fields.proofs.places.block_count.Statement.{statement}
 use Rattle.fields.proofs.places.block_count.Tie as tie
 
 -- the two factors
-factors : (c : tie.After-byte2) → c.before.byte.result * c.byte2.result ≤ 255 * 255
+factors : (c : tie.After-byte-n) → c.byte-m.result * c.byte-n.result ≤ 255 * 255
 factors c =
-    let m : c.before.byte.result ≤ 255 = omega arith in
-    let n : c.byte2.result ≤ 255 = omega arith in
+    let m : c.byte-m.result ≤ 255 = omega arith in
+    let n : c.byte-n.result ≤ 255 = omega arith in
     mul-le-mul m n
 
-mul_result : tie.Need-overflow-mul-result
+mul_result : tie.Need-overflow_mul-result
 mul_result c = omega (arith, factors c)
 
 returns : tie.Need-returns
-returns c = rw (← c.before.byte.ensures, ← c.byte2.ensures) (search rules)
+returns c = rw (← c.byte-m.ensures, ← c.byte-n.ensures) (search rules)
 
 pub block_count_spec : {M : Type 1} → statement M
 block_count_spec =

@@ -9,28 +9,28 @@ use Rattle.fields.proofs.places.body_length.Statement.{statement}
 use Rattle.fields.proofs.places.body_length.Tie as tie
 
 -- the two factors
-factors : (c : tie.After-byte2) → c.before.byte.result * c.byte2.result ≤ 255 * 255
+factors : (c : tie.After-byte-residues) → c.byte-lists.result * c.byte-residues.result ≤ 255 * 255
 factors c =
-    let m : c.before.byte.result ≤ 255 = omega arith in
-    let n : c.byte2.result ≤ 255 = omega arith in
+    let m : c.byte-lists.result ≤ 255 = omega arith in
+    let n : c.byte-residues.result ≤ 255 = omega arith in
     mul-le-mul m n
 
-returns : tie.Need-returns
-returns c = rw c.if1.true (search rules)
+returns : tie.Need-returns-then-tag-eq1
+returns c = rw c.if-tag-eq1.true (search rules)
 
-returns-2 : tie.Need-returns-2
-returns-2 c = rw (ne_eqb _ 1 c.before.before.if1.false, c.before.if2.true) (search rules)
+returns-2 : tie.Need-returns-then-tag-eq2
+returns-2 c = rw (ne_eqb _ 1 c.if-tag-eq1.false, c.if-tag-eq2.true) (search rules)
 
-returns-3 : tie.Need-returns-3
-returns-3 c = rw (ne_eqb _ 1 c.before.before.if1.false, ne_eqb _ 2 c.before.if2.false, c.if3.true) (search rules)
+returns-3 : tie.Need-returns-then-tag-eq3
+returns-3 c = rw (ne_eqb _ 1 c.if-tag-eq1.false, ne_eqb _ 2 c.if-tag-eq2.false, c.if-tag-eq3.true) (search rules)
 
-returns-4 : tie.Need-returns-4
+returns-4 : tie.Need-returns
 returns-4 c = rw (
-  ne_eqb _ 1 c.before.before.before.before.if1.false,
-  ne_eqb _ 2 c.before.before.before.if2.false,
-  ne_eqb _ 3 c.before.before.if3.false,
-  ← c.before.byte.ensures,
-  ← c.byte2.ensures,
+  ne_eqb _ 1 c.if-tag-eq1.false,
+  ne_eqb _ 2 c.if-tag-eq2.false,
+  ne_eqb _ 3 c.if-tag-eq3.false,
+  ← c.byte-lists.ensures,
+  ← c.byte-residues.ensures,
 ) (search rules)
 
 pub body_length_spec : {M : Type 1} → statement M

@@ -8,20 +8,20 @@ use Rattle.fields.proofs.places.restraint_at.Statement.{statement}
 use Rattle.fields.proofs.places.restraint_at.Tie as tie
 
 -- the two factors
-factors : (c : tie.After-byte2) → 2 * c.before.byte.result * c.byte2.result ≤ 510 * 255
+factors : (c : tie.After-byte-m) → 2 * c.byte-p.result * c.byte-m.result ≤ 510 * 255
 factors c =
-    let p : 2 * c.before.byte.result ≤ 510 = omega arith in
-    let m : c.byte2.result ≤ 255 = omega arith in
+    let p : 2 * c.byte-p.result ≤ 510 = omega arith in
+    let m : c.byte-m.result ≤ 255 = omega arith in
     mul-le-mul p m
 
-mul_result_2 : tie.Need-overflow-mul-result-2
+mul_result_2 : tie.Need-overflow_mul-result-2
 mul_result_2 c = omega (arith, factors c)
 
-add_result : tie.Need-overflow-add-result
+add_result : tie.Need-overflow_add-result
 add_result c = omega (arith, factors c)
 
 returns : tie.Need-returns
-returns c = rw (← c.before.byte.ensures, ← c.byte2.ensures) (search rules)
+returns c = rw (← c.byte-p.ensures, ← c.byte-m.ensures) (search rules)
 
 pub restraint_at_spec : {M : Type 1} → statement M
 restraint_at_spec =

@@ -11,68 +11,68 @@ use borrow.Author.Rules.{rules}
 use Rattle.groups.proofs.base.group_word.Statement.{statement}
 use Rattle.groups.proofs.base.group_word.Tie as tie
 
-abbrev invariant-loop : tie.invariant-loop
+abbrev invariant-loop : tie.invariant-loop-i
 invariant-loop v g word members sum₀ i₀ sum i = (i ≤ v) × (sum ≡ word_in_members g i word)
 
-abbrev decreases-loop : tie.decreases-loop
+abbrev decreases-loop : tie.decreases-loop-i
 decreases-loop v g word members sum₀ i₀ sum i = v - i
 
-sub_members : tie.Need-overflow-sub-members invariant-loop decreases-loop
+sub_members : tie.Need-overflow_sub-members invariant-loop decreases-loop
 sub_members c = omega (arith, bit_of c.args.g c.requires.0, pow_pos c.args.g)
 
-loop-holds : tie.Need-loop-init invariant-loop decreases-loop
+loop-holds : tie.Need-loop-i-init invariant-loop decreases-loop
 loop-holds c = (search rules, members-none c.args.g c.args.word)
 
 module _ (c : tie.After-holds invariant-loop decreases-loop) where
-  abbrev at : tie.At-loop invariant-loop decreases-loop
+  abbrev at : tie.At-loop-i invariant-loop decreases-loop
   at = c.before.before
 
   abbrev start : tie.Start invariant-loop decreases-loop
   start = c.before.before.before
 
-  below : at.loop.i < start.args.v
+  below : at.loop-i.i < start.args.v
   below = omega arith
 
   -- the run, shifted to its place
-  shift : (((1 * 2 ^ start.args.g) % 2 ^ 64 - 1) * 2 ^ (start.args.g * at.loop.i)) % 2 ^ 64 ≡ members_at start.args.g at.loop.i
-  shift = ap (λ (z : ℕ). ((z - 1) * 2 ^ (start.args.g * at.loop.i)) % 2 ^ 64) (bit_of start.args.g start.pre.0)
-      ∙ shifted start.args.g start.args.v at.loop.i below start.pre.2
+  shift : (((1 * 2 ^ start.args.g) % 2 ^ 64 - 1) * 2 ^ (start.args.g * at.loop-i.i)) % 2 ^ 64 ≡ members_at start.args.g at.loop-i.i
+  shift = ap (λ (z : ℕ). ((z - 1) * 2 ^ (start.args.g * at.loop-i.i)) % 2 ^ 64) (bit_of start.args.g start.requires.0)
+      ∙ shifted start.args.g start.args.v at.loop-i.i below start.requires.2
 
   -- what is added
-  added : c.holds.result * ((((1 * 2 ^ start.args.g) % 2 ^ 64 - 1) * 2 ^ (start.args.g * at.loop.i)) % 2 ^ 64)
-      ≡ member start.args.word at.loop.i * members_at start.args.g at.loop.i
+  added : c.holds.result * ((((1 * 2 ^ start.args.g) % 2 ^ 64 - 1) * 2 ^ (start.args.g * at.loop-i.i)) % 2 ^ 64)
+      ≡ member start.args.word at.loop-i.i * members_at start.args.g at.loop-i.i
   added = ap₂ ◌*◌ c.holds.ensures shift
 
-  room : word_in_members start.args.g at.loop.i start.args.word + member start.args.word at.loop.i * members_at start.args.g at.loop.i
+  room : word_in_members start.args.g at.loop-i.i start.args.word + member start.args.word at.loop-i.i * members_at start.args.g at.loop-i.i
       < 2 ^ 50
   room = omega (
     arith,
-    bits_most start.args.g start.args.word at.loop.i,
-    small start.args.g start.args.v at.loop.i below start.pre.2 start.args.word,
+    bits_most start.args.g start.args.word at.loop-i.i,
+    small start.args.g start.args.v at.loop-i.i below start.requires.2 start.args.word,
   )
 
-  low : start.args.g * at.loop.i + start.args.g ≤ 50
-  low = places start.args.g start.args.v at.loop.i below start.pre.2
+  low : start.args.g * at.loop-i.i + start.args.g ≤ 50
+  low = places start.args.g start.args.v at.loop-i.i below start.requires.2
 
-mul_sum : tie.Need-overflow-mul-sum invariant-loop decreases-loop
+mul_sum : tie.Need-overflow_mul-sum invariant-loop decreases-loop
 mul_sum c = omega (arith, low c)
 
-shl_sum : tie.Need-overflow-shl-sum invariant-loop decreases-loop
+shl_sum : tie.Need-overflow_shl-sum invariant-loop decreases-loop
 shl_sum c = omega (arith, low c)
 
-mul_sum_2 : tie.Need-overflow-mul-sum-2 invariant-loop decreases-loop
+mul_sum_2 : tie.Need-overflow_mul-sum-in-loop-i invariant-loop decreases-loop
 mul_sum_2 c = omega (arith, added c, room c)
 
-add_sum : tie.Need-overflow-add-sum invariant-loop decreases-loop
-add_sum c = omega (arith, added c, room c, (at c).loop.invariant.1)
+add_sum : tie.Need-overflow_add-sum invariant-loop decreases-loop
+add_sum c = omega (arith, added c, room c, (at c).loop-i.invariant.1)
 
-loop-again : tie.Need-loop-preserved invariant-loop decreases-loop
-loop-again c = (search rules, ap₂ ◌+◌ (at c).loop.invariant.1 (added c) ∙ sym (members-more (start c).args.g (start c).args.word (at c).loop.i))
+loop-again : tie.Need-loop-i-preserved invariant-loop decreases-loop
+loop-again c = (search rules, ap₂ ◌+◌ (at c).loop-i.invariant.1 (added c) ∙ sym (members-more (start c).args.g (start c).args.word (at c).loop-i.i))
 
 returns : tie.Need-returns invariant-loop decreases-loop
 returns c =
-    let l = c.before.loop in
-    let a = c.before.before.args in
+    let l = c.loop-i in
+    let a = c.args in
     let all : l.i ≡ a.v = omega arith in
     search (l.invariant.1 ∙ ap (λ (z : ℕ). word_in_members a.g z a.word) all)
 

@@ -5,11 +5,11 @@ use borrow.Author.Rules.{rules}
 use Rattle.groups.proofs.base.in_groups.Statement.{statement}
 use Rattle.groups.proofs.base.in_groups.Tie as tie
 
-mul_t5 : tie.Need-overflow-mul-t5
-mul_t5 c = omega (arith, mul-le-mul c.before.requires.0 c.before.requires.1)
+mul_t5 : tie.Need-overflow_mul-result
+mul_t5 c = omega (arith, mul-le-mul c.requires.0 c.requires.1)
 
-mul_t6 : tie.Need-overflow-mul-t6
-mul_t6 c = omega (arith, mul-le-mul c.before.before.requires.0 c.before.before.requires.2)
+mul_t6 : tie.Need-overflow_mul-result-2
+mul_t6 c = omega (arith, mul-le-mul c.requires.0 c.requires.2)
 
 returns : tie.Need-returns
 returns c = search rules

@@ -14,47 +14,47 @@ use Rattle.groups.proofs.base.sizes_refusal.Statement.{statement}
 use Rattle.groups.proofs.base.sizes_refusal.Tie as tie
 
 -- past the first test the sizes hold
-passed : (c : tie.Else1) → sized c.before.before.before.args.head ≡ true
-passed c = sym c.before.sized.ensures ∙ not-false _ c.if1.false
+passed : (c : tie.Else-not-sized) → sized c.args.head ≡ true
+passed c = sym c.sized.ensures ∙ not-false _ c.if-not-sized.false-raw
 
-returns : tie.Need-returns
+returns : tie.Need-returns-then-not-sized
 unfolding sizes_verdict
-returns c = rw (sym c.before.sized.ensures ∙ not-true _ c.if1.true)
+returns c = rw (sym c.sized.ensures ∙ not-true _ c.if-not-sized.true-raw)
 
-mul_if2 : tie.Need-overflow-mul-if2
+mul_if2 : tie.Need-overflow_mul-p
 mul_if2 c = let f = fits _ (passed c) in omega arith
 
-mul_if2_2 : tie.Need-overflow-mul-if2-2
+mul_if2_2 : tie.Need-overflow_mul-p-2
 mul_if2_2 c = omega (arith, listed-most _ (fits _ (passed c)))
 
-returns-2 : tie.Need-returns-2
+returns-2 : tie.Need-returns-then-blocks-p
 unfolding sizes_verdict
-returns-2 c = rw (passed c.before, ne_eqb _ _ c.if2.true)
+returns-2 c = rw (passed c.before, ne_eqb _ _ c.if-blocks-p.true)
 
-returns-3 : tie.Need-returns-3
+returns-3 : tie.Need-returns-then-g-lt2
 unfolding sizes_verdict
-returns-3 c = rw (passed c.before.before, eq-eqb _ _ c.before.if2.false, lt-leb 2 c.before.before.before.before.before.args.g (omega arith))
+returns-3 c = rw (passed c.before.before, eq-eqb _ _ c.if-blocks-p.false, lt-leb 2 c.args.g (omega arith))
 
 -- an object more than fits in one group does not fit in three
 too_many : (g v : ℕ) → 50 < g → 3 ≤ v → 50 < g * v
 too_many g v l m = omega (arith, mul-le-mul_left g m)
 
-returns-4 : tie.Need-returns-4
+returns-4 : tie.Need-returns-then-g-gt50
 unfolding sizes_verdict
 returns-4 c =
-    let a = c.before.before.before.before.before.before.args in
+    let a = c.args in
     let three : 3 ≤ objects a.head = omega (arith, (fits _ (passed c.before.before.before)).n_least) in
     let large : 2 ≤ a.g = omega arith in
     rw (
       passed c.before.before.before,
-      eq-eqb _ _ c.before.before.if2.false,
+      eq-eqb _ _ c.if-blocks-p.false,
       le-leb 2 a.g large,
-      lt-leb (a.g * objects a.head) 50 (too_many a.g (objects a.head) c.if4.true three),
+      lt-leb (a.g * objects a.head) 50 (too_many a.g (objects a.head) c.if-g-gt50.true three),
     )
 
 -- v is counted
 module _ (c : tie.After-objects) where
-  abbrev else1 : tie.Else1
+  abbrev else1 : tie.Else-not-sized
   else1 = c.before.before.before.before
 
   abbrev start : tie.Start
@@ -63,34 +63,34 @@ module _ (c : tie.After-objects) where
   v : c.objects.result ≡ objects start.args.head
   v = c.objects.ensures ∙ within-sizes _ _ (fits _ (passed else1))
 
-mul_if5 : tie.Need-overflow-mul-if5
+mul_if5 : tie.Need-overflow_mul-g
 mul_if5 c =
     let few : (start c).args.g ≤ 50 = omega arith in
     let most : c.objects.result ≤ 50 = omega (arith, v c, (fits _ (passed (else1 c))).objects-most) in
     omega (arith, mul-le-mul few most)
 
-returns-5 : tie.Need-returns-5
+returns-5 : tie.Need-returns-then-g-objects-gt50
 unfolding sizes_verdict
 returns-5 c =
     let a = (start c.before).args in
     let large : 2 ≤ a.g = omega arith in
-    let wide : 50 < a.g * objects a.head = subst (λ (z : ℕ). 50 < a.g * z) (v c.before) c.if5.true in
+    let wide : 50 < a.g * objects a.head = subst (λ (z : ℕ). 50 < a.g * z) (v c.before) c.if-g-objects-gt50.true in
     rw (
       passed (else1 c.before),
-      eq-eqb _ _ c.before.before.before.before.if2.false,
+      eq-eqb _ _ c.if-blocks-p.false,
       le-leb 2 a.g large,
       lt-leb (a.g * objects a.head) 50 wide,
     )
 
-returns-6 : tie.Need-returns-6
+returns-6 : tie.Need-returns
 unfolding sizes_verdict
 returns-6 c =
     let a = (start c.before).args in
     let large : 2 ≤ a.g = omega arith in
-    let narrow : a.g * objects a.head ≤ 50 = subst (λ (z : ℕ). a.g * z ≤ 50) (v c.before) c.if5.false in
+    let narrow : a.g * objects a.head ≤ 50 = subst (λ (z : ℕ). a.g * z ≤ 50) (v c.before) c.if-g-objects-gt50.false in
     rw (
       passed (else1 c.before),
-      eq-eqb _ _ c.before.before.before.before.if2.false,
+      eq-eqb _ _ c.if-blocks-p.false,
       le-leb 2 a.g large,
       le-leb (a.g * objects a.head) 50 narrow,
     )

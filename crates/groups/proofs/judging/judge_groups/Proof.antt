@@ -15,51 +15,51 @@ some : (c : tie.Start) → 1 ≤ length c.args.groups.now
 some c = let e = even-groups _ c.requires.2 in omega (arith, e.several)
 
 -- and its mate and its stranger have rows
-module _ (c : tie.After-stranger) where
+module _ (c : tie.After-stranger-far) where
   abbrev start : tie.Start
   start = c.before.before.before
 
-  near : c.before.mate.result < 50
-  near = omega (arith, c.before.mate.ensures, (mate-below _ (even-groups _ start.pre.2)).1, start.pre.0, start.pre.1)
+  near : c.mate-near.result < 50
+  near = omega (arith, c.mate-near.ensures, (mate-below _ (even-groups _ start.requires.2)).1, start.requires.0, start.requires.1)
 
-  far : c.stranger.result < 50
-  far = omega (arith, c.stranger.ensures, (stranger-below _ (even-groups _ start.pre.2)).1, start.pre.0, start.pre.1)
+  far : c.stranger-far.result < 50
+  far = omega (arith, c.stranger-far.ensures, (stranger-below _ (even-groups _ start.requires.2)).1, start.requires.0, start.requires.1)
 
-mul_t10 : tie.Need-overflow-mul-t10
+mul_t10 : tie.Need-offset_bounds-company-near
 mul_t10 c = omega (arith, near c)
 
-index_1_t15 : tie.Need-bounds-1-t15
+index_1_t15 : tie.Need-bounds-company-near
 index_1_t15 c = near c
 
-mul_t16 : tie.Need-overflow-mul-t16
+mul_t16 : tie.Need-offset_bounds-opposition-near
 mul_t16 c = omega (arith, near c.before)
 
-index_1_t21 : tie.Need-bounds-1-t21
+index_1_t21 : tie.Need-bounds-opposition-near
 index_1_t21 c = near c.before
 
-mul_t22 : tie.Need-overflow-mul-t22
+mul_t22 : tie.Need-offset_bounds-company-far
 mul_t22 c = omega (arith, far c.before.before)
 
-index_1_t27 : tie.Need-bounds-1-t27
+index_1_t27 : tie.Need-bounds-company-far
 index_1_t27 c = far c.before.before
 
-mul_t28 : tie.Need-overflow-mul-t28
+mul_t28 : tie.Need-offset_bounds-opposition-far
 mul_t28 c = omega (arith, far c.before.before.before)
 
-index_1_t33 : tie.Need-bounds-1-t33
+index_1_t33 : tie.Need-bounds-opposition-far
 index_1_t33 c = far c.before.before.before
 
-returns : tie.Need-returns
+returns : tie.Need-returns-then-not-tables_alike
 returns c =
     let at = c.before.before.before.before.before.before.before.before.before in
-    tables_refused _ _ _ _ at.before.mate.result at.stranger.result at.before.mate.ensures at.stranger.ensures
-    (search (sym c.before.before.tables-alike.ensures ∙ not-true _ c.before.if1.true)) (search rules)
+    tables_refused _ _ _ _ at.mate-near.result at.stranger-far.result at.mate-near.ensures at.stranger-far.ensures
+    (search (sym c.tables_alike.ensures ∙ not-true _ c.if-not-tables_alike.true-raw)) (search rules)
 
-returns-2 : tie.Need-returns-2
+returns-2 : tie.Need-returns
 returns-2 c =
     let at = c.before.before.before.before.before.before.before.before in
-    tables_accepted _ _ _ _ at.before.mate.result at.stranger.result at.before.mate.ensures at.stranger.ensures
-    (search (sym c.before.tables-alike.ensures ∙ not-false _ c.if1.false)) (search rules)
+    tables_accepted _ _ _ _ at.mate-near.result at.stranger-far.result at.mate-near.ensures at.stranger-far.ensures
+    (search (sym c.tables_alike.ensures ∙ not-false _ c.if-not-tables_alike.false-raw)) (search rules)
 
 pub judge_groups_spec : {M : Type 1} → statement M
 judge_groups_spec =

@@ -10,35 +10,35 @@ use borrow.Author.Rules.{rules}
 use Rattle.groups.proofs.judging.row_alike.Statement.{statement}
 use Rattle.groups.proofs.judging.row_alike.Tie as tie
 
-abbrev invariant-loop : tie.invariant-loop
+abbrev invariant-loop : tie.invariant-loop-j
 invariant-loop company opposition i groups counts j₀ j = (j ≤ i) × (row_alike counts groups i company opposition j ≡ true)
 
-abbrev decreases-loop : tie.decreases-loop
+abbrev decreases-loop : tie.decreases-loop-j
 decreases-loop company opposition i groups counts j₀ j = i - j
 
-loop-holds : tie.Need-loop-init invariant-loop decreases-loop
+loop-holds : tie.Need-loop-j-init invariant-loop decreases-loop
 loop-holds c = (search rules, row-none _ _ _ _ _)
 
-returns : tie.Need-returns invariant-loop decreases-loop
+returns : tie.Need-returns-then-not-meets_as invariant-loop decreases-loop
 returns c =
-    let a = c.before.before.before.before.before.before.before.before.before.args in
-    let l = c.before.before.before.before.before.before.before.loop in
+    let a = c.args in
+    let l = c.loop-j in
     sym (row_fails a.counts a.groups.now a.i a.company.now a.opposition.now a.i l.j
-    c.before.before.before.before.before.before.loop-test.true (search (sym c.before.meets-as.ensures ∙ not-true _ c.if1.true)))
+    c.loop-j-test.true (search (sym c.meets_as.ensures ∙ not-true _ c.if-not-meets_as.true-raw)))
 
-loop-again : tie.Need-loop-preserved invariant-loop decreases-loop
+loop-again : tie.Need-loop-j-preserved invariant-loop decreases-loop
 loop-again c =
-    let a = c.before.before.before.before.before.before.before.before.before.args in
-    let l = c.before.before.before.before.before.before.before.loop in (
+    let a = c.args in
+    let l = c.loop-j in (
       search rules,
       row_more_lem a.counts a.groups.now a.i a.company.now a.opposition.now l.j l.invariant.1
-          (search (sym c.before.meets-as.ensures ∙ not-false _ c.if1.false)),
+          (search (sym c.meets_as.ensures ∙ not-false _ c.if-not-meets_as.false-raw)),
     )
 
-returns-2 : tie.Need-returns-2 invariant-loop decreases-loop
+returns-2 : tie.Need-returns invariant-loop decreases-loop
 returns-2 c =
-    let a = c.before.before.before.args in
-    let l = c.before.loop in
+    let a = c.args in
+    let l = c.loop-j in
     let e : a.i ≡ l.j = omega arith in
     sym (ap (row_alike a.counts a.groups.now a.i a.company.now a.opposition.now) e ∙ l.invariant.1)
 

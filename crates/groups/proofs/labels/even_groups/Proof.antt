@@ -9,19 +9,19 @@ use borrow.Author.Rules.{rules}
 use Rattle.groups.proofs.labels.even_groups.Statement.{statement}
 use Rattle.groups.proofs.labels.even_groups.Tie as tie
 
-returns : tie.Need-returns
-returns c = not-even _ (λ g. omega (arith, g.size-least, c.before.type_size.ensures, c.if1.true))
+returns : tie.Need-returns-then-size-lt2
+returns c = not-even _ (λ g. omega (arith, g.size-least, c.size_of-size.ensures, c.if-size-lt2.true))
 
-returns-2 : tie.Need-returns-2
-returns-2 c = not-even _ (λ g. omega (arith, g.several, c.before.before.type_size.ensures, c.if2.true))
+returns-2 : tie.Need-returns-then-groups-size
+returns-2 c = not-even _ (λ g. omega (arith, g.several, c.size_of-size.ensures, c.if-groups-size.true))
 
-returns-3 : tie.Need-returns-3
+returns-3 : tie.Need-returns
 returns-3 c =
-    let a = c.before.before.before.before.before.before.args in
-    let size = c.before.before.before.type_size in
+    let a = c.args in
+    let size = c.size_of-size in
     let large : 2 ≤ size.result = omega arith in
     let part : size.result < length a.groups.now = omega arith in
-    c.sizes-alike.ensures ∙ even-rest a.groups.now size.result size.ensures large part
+    c.sizes_alike.ensures ∙ even-rest a.groups.now size.result size.ensures large part
 
 pub even_groups_spec : {M : Type 1} → statement M
 even_groups_spec =

@@ -5,11 +5,11 @@ use borrow.Author.Rules.{rules}
 use Rattle.groups.proofs.labels.one_where_equal.Statement.{statement}
 use Rattle.groups.proofs.labels.one_where_equal.Tie as tie
 
-returns : tie.Need-returns
-returns c = rw (eq-eqb c.before.args.label c.before.args.other c.if1.true) (search rules)
+returns : tie.Need-returns-then-label-other
+returns c = rw (eq-eqb c.args.label c.args.other c.if-label-other.true) (search rules)
 
-returns-2 : tie.Need-returns-2
-returns-2 c = rw (ne_eqb c.before.args.label c.before.args.other c.if1.false) (search rules)
+returns-2 : tie.Need-returns-else-label-other
+returns-2 c = rw (ne_eqb c.args.label c.args.other c.if-label-other.false) (search rules)
 
 pub one_where_equal_spec : {M : Type 1} → statement M
 one_where_equal_spec = tie.close (tie.spec returns returns-2)

@@ -11,14 +11,14 @@ use borrow.Author.Rules.{rules}
 use Rattle.groups.proofs.labels.size_of.Statement.{statement}
 use Rattle.groups.proofs.labels.size_of.Tie as tie
 
-abbrev invariant-loop : tie.invariant-loop
+abbrev invariant-loop : tie.invariant-loop-k
 invariant-loop groups label size₀ k₀ k-end size k =
     (k ≤ length groups) × (k-end ≡ length groups) × (size ≤ k) × (size + occ label (drop k groups) ≡ occ label groups)
 
-abbrev decreases-loop : tie.decreases-loop
+abbrev decreases-loop : tie.decreases-loop-k
 decreases-loop groups label size₀ k₀ k-end size k = k-end - k
 
-loop-holds : tie.Need-loop-init invariant-loop decreases-loop
+loop-holds : tie.Need-loop-k-init invariant-loop decreases-loop
 loop-holds c = (search rules, search rules, search rules, omega arith)
 
 -- what is added is at most 1
@@ -26,34 +26,34 @@ one : (b : Bool) → cond b 1 0 ≤ 1
 one true = omega arith
 one false = omega arith
 
-module _ (c : tie.After-one-where-equal invariant-loop decreases-loop) where
-  abbrev at : tie.At-loop invariant-loop decreases-loop
+module _ (c : tie.After-one_where_equal-size invariant-loop decreases-loop) where
+  abbrev at : tie.At-loop-k invariant-loop decreases-loop
   at = c.before.before.before
 
   abbrev start : tie.Start invariant-loop decreases-loop
   start = c.before.before.before.before.before
 
-  more : at.loop.k < length start.args.groups.now
+  more : at.loop-k.k < length start.args.groups.now
   more = omega arith
 
-  small : c.one-where-equal.result ≤ 1
-  small = rw c.one-where-equal.ensures (one (eqb start.args.label (get_or start.args.groups.now at.loop.k 0)))
+  small : c.one_where_equal-size.result ≤ 1
+  small = rw c.one_where_equal-size.ensures (one (eqb start.args.label (get_or start.args.groups.now at.loop-k.k 0)))
 
-add_size : tie.Need-overflow-add-size invariant-loop decreases-loop
+add_size : tie.Need-overflow_add-size invariant-loop decreases-loop
 add_size c = omega (arith, small c, more c)
 
-loop-again : tie.Need-loop-preserved invariant-loop decreases-loop
+loop-again : tie.Need-loop-k-preserved invariant-loop decreases-loop
 loop-again c = (
   search rules,
   search rules,
-  omega (arith, small c, (at c).loop.invariant.2),
-  omega (arith, (at c).loop.invariant.3, size-more (start c).args.groups.now (start c).args.label (at c).loop.k (more c), c.one-where-equal.ensures),
+  omega (arith, small c, (at c).loop-k.invariant.2),
+  omega (arith, (at c).loop-k.invariant.3, size-more (start c).args.groups.now (start c).args.label (at c).loop-k.k (more c), c.one_where_equal-size.ensures),
 )
 
 returns : tie.Need-returns invariant-loop decreases-loop
 returns c =
-    let l = c.before.loop in
-    let a = c.before.before.before.args in
+    let l = c.loop-k in
+    let a = c.args in
     let all : l.k ≡ length a.groups.now = omega arith in
     omega (arith, l.invariant.3, size_none a.groups.now a.label l.k all)
 

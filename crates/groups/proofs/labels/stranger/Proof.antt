@@ -17,35 +17,35 @@ use Rattle.groups.proofs.labels.stranger.Tie as tie
 abbrev found : List ℕ → ℕ → Bool
 found groups j = not (one_group groups j 0)
 
-abbrev invariant-loop : tie.invariant-loop
+abbrev invariant-loop : tie.invariant-loop-j
 invariant-loop groups j₀ j = (1 ≤ j) × (j ≤ length groups) × (stranger groups ≡ first_from (found groups) j (length groups - j))
 
-abbrev decreases-loop : tie.decreases-loop
+abbrev decreases-loop : tie.decreases-loop-j
 decreases-loop groups j₀ j = length groups - j
 
-loop-holds : tie.Need-loop-init invariant-loop decreases-loop
+loop-holds : tie.Need-loop-j-init invariant-loop decreases-loop
 unfolding stranger
 loop-holds c = (omega arith, omega arith, refl)
 
-returns : tie.Need-returns invariant-loop decreases-loop
+returns : tie.Need-returns-then-groups-j invariant-loop decreases-loop
 returns c =
-    let l = c.before.before.before.before.loop in
-    let a = c.before.before.before.before.before.args in
-    let here : found a.groups.now l.j ≡ true = ap not (ne_eqb _ _ c.if1.true) in
-    search (sym (l.invariant.2 ∙ first-here (found a.groups.now) (length a.groups.now) l.j c.before.before.before.loop-test.true here))
+    let l = c.loop-j in
+    let a = c.args in
+    let here : found a.groups.now l.j ≡ true = ap not (ne_eqb _ _ c.if-groups-j.true) in
+    search (sym (l.invariant.2 ∙ first-here (found a.groups.now) (length a.groups.now) l.j c.loop-j-test.true here))
 
-loop-again : tie.Need-loop-preserved invariant-loop decreases-loop
+loop-again : tie.Need-loop-j-preserved invariant-loop decreases-loop
 loop-again c =
-    let l = c.before.before.before.before.loop in
-    let a = c.before.before.before.before.before.args in
-    let on : found a.groups.now l.j ≡ false = ap not (eq-eqb _ _ c.if1.false) in
-    (omega arith, omega arith, l.invariant.2 ∙ first_on (found a.groups.now) (length a.groups.now) l.j c.before.before.before.loop-test.true on)
+    let l = c.loop-j in
+    let a = c.args in
+    let on : found a.groups.now l.j ≡ false = ap not (eq-eqb _ _ c.if-groups-j.false) in
+    (omega arith, omega arith, l.invariant.2 ∙ first_on (found a.groups.now) (length a.groups.now) l.j c.loop-j-test.true on)
 
-returns-2 : tie.Need-returns-2 invariant-loop decreases-loop
+returns-2 : tie.Need-returns invariant-loop decreases-loop
 unfolding first_from
 returns-2 c =
-    let l = c.before.loop in
-    let none : length c.before.before.args.groups.now - l.j ≡ 0 = omega arith in
+    let l = c.loop-j in
+    let none : length c.args.groups.now - l.j ≡ 0 = omega arith in
     sym (rw none at l.invariant.2)
 
 pub stranger_spec : {M : Type 1} → statement M

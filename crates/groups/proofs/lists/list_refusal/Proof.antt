@@ -13,71 +13,71 @@ use Rattle.groups.proofs.lists.list_refusal.Statement.{statement}
 use Rattle.groups.proofs.lists.list_refusal.Tie as tie
 
 -- past the first test the sizes hold
-passed : (c : tie.Else1) → list_sized c.before.before.before.before.args.count c.before.before.before.before.args.v
-    c.before.before.before.before.args.p ≡ true
-passed c = sym c.before.list-sized.ensures ∙ not-false _ c.if1.false
+passed : (c : tie.Else-not-list_sized) → list_sized c.args.count c.args.v
+    c.args.p ≡ true
+passed c = sym c.list_sized.ensures ∙ not-false _ c.if-not-list_sized.false-raw
 
-returns : tie.Need-returns
+returns : tie.Need-returns-then-not-list_sized
 unfolding list_verdict
-returns c = rw (sym c.before.list-sized.ensures ∙ not-true _ c.if1.true)
+returns c = rw (sym c.list_sized.ensures ∙ not-true _ c.if-not-list_sized.true-raw)
 
-mul_if2 : tie.Need-overflow-mul-if2
+mul_if2 : tie.Need-overflow_mul-p
 mul_if2 c = let f = list_fits _ _ _ (passed c) in omega arith
 
-mul_if2_2 : tie.Need-overflow-mul-if2-2
+mul_if2_2 : tie.Need-overflow_mul-p-2
 mul_if2_2 c =
     let f = list_fits _ _ _ (passed c) in
-    let side : 2 * c.before.before.before.before.args.p ≤ 50 = omega arith in
+    let side : 2 * c.args.p ≤ 50 = omega arith in
     omega (arith, mul-le-mul side f.count_most)
 
-returns-2 : tie.Need-returns-2
+returns-2 : tie.Need-returns-then-blocks-p
 unfolding list_verdict
-returns-2 c = rw (passed c.before, ne_eqb _ _ c.if2.true)
+returns-2 c = rw (passed c.before, ne_eqb _ _ c.if-blocks-p.true)
 
-returns-3 : tie.Need-returns-3
+returns-3 : tie.Need-returns-then-groups-v
 unfolding list_verdict
-returns-3 c = rw (passed c.before.before, eq-eqb _ _ c.before.if2.false, ne_eqb _ _ c.if3.true)
+returns-3 c = rw (passed c.before.before, eq-eqb _ _ c.if-blocks-p.false, ne_eqb _ _ c.if-groups-v.true)
 
-even_groups_requires : tie.Need-even-groups-requires
-even_groups_requires c κs = let f = list_fits _ _ _ (passed c.before.before) in omega (arith, c.if3.false)
+even_groups_requires : tie.Need-even_groups-requires
+even_groups_requires c κs = let f = list_fits _ _ _ (passed c.before.before) in omega (arith, c.if-groups-v.false)
 
-returns-4 : tie.Need-returns-4
+returns-4 : tie.Need-returns-then-not-even_groups
 unfolding list_verdict
 returns-4 c = rw (
   passed c.before.before.before.before,
-  eq-eqb _ _ c.before.before.before.if2.false,
-  eq-eqb _ _ c.before.before.if3.false,
-  sym c.before.even-groups.ensures ∙ not-true _ c.if4.true,
+  eq-eqb _ _ c.if-blocks-p.false,
+  eq-eqb _ _ c.if-groups-v.false,
+  sym c.even_groups.ensures ∙ not-true _ c.if-not-even_groups.true-raw,
 )
 
-stray_requires : tie.Need-stray-requires
+stray_requires : tie.Need-stray-at-requires
 stray_requires c κs = let f = list_fits _ _ _ (passed c.before.before.before.before) in (search rules, omega arith)
 
-returns-5 : tie.Need-returns-5
+returns-5 : tie.Need-returns-then-at-blocks
 unfolding list_verdict
 returns-5 c =
-    let a = c.before.before.before.before.before.before.before.before.before.before.args in
-    let differ = ne_eqb c.before.stray.result (length a.blocks.now) (search rules) in
+    let a = c.args in
+    let differ = ne_eqb c.stray-at.result (length a.blocks.now) (search rules) in
     rw (
       passed c.before.before.before.before.before.before,
-      eq-eqb _ _ c.before.before.before.before.before.if2.false,
-      eq-eqb _ _ c.before.before.before.before.if3.false,
-      sym c.before.before.before.even-groups.ensures ∙ not-false _ c.before.before.if4.false,
-      ← c.before.stray.ensures,
+      eq-eqb _ _ c.if-blocks-p.false,
+      eq-eqb _ _ c.if-groups-v.false,
+      sym c.even_groups.ensures ∙ not-false _ c.if-not-even_groups.false-raw,
+      ← c.stray-at.ensures,
       differ,
     ) (search rules)
 
-returns-6 : tie.Need-returns-6
+returns-6 : tie.Need-returns
 unfolding list_verdict
 returns-6 c =
-    let a = c.before.before.before.before.before.before.before.before.before.before.args in
-    let same = eq-eqb c.before.stray.result (length a.blocks.now) (search rules) in
+    let a = c.args in
+    let same = eq-eqb c.stray-at.result (length a.blocks.now) (search rules) in
     rw (
       passed c.before.before.before.before.before.before,
-      eq-eqb _ _ c.before.before.before.before.before.if2.false,
-      eq-eqb _ _ c.before.before.before.before.if3.false,
-      sym c.before.before.before.even-groups.ensures ∙ not-false _ c.before.before.if4.false,
-      ← c.before.stray.ensures,
+      eq-eqb _ _ c.if-blocks-p.false,
+      eq-eqb _ _ c.if-groups-v.false,
+      sym c.even_groups.ensures ∙ not-false _ c.if-not-even_groups.false-raw,
+      ← c.stray-at.ensures,
       same,
     ) (search rules)
 

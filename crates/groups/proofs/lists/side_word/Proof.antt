@@ -10,49 +10,49 @@ use borrow.Author.Rules.{rules}
 use Rattle.groups.proofs.lists.side_word.Statement.{statement}
 use Rattle.groups.proofs.lists.side_word.Tie as tie
 
-abbrev invariant-loop : tie.invariant-loop
+abbrev invariant-loop : tie.invariant-loop-k
 invariant-loop side sum₀ k₀ k-end sum k = (k ≤ length side) × (k-end ≡ length side) × (sum + word (drop k side) ≡ word side)
 
-abbrev decreases-loop : tie.decreases-loop
+abbrev decreases-loop : tie.decreases-loop-k
 decreases-loop side sum₀ k₀ k-end sum k = k-end - k
 
-loop-holds : tie.Need-loop-init invariant-loop decreases-loop
+loop-holds : tie.Need-loop-k-init invariant-loop decreases-loop
 loop-holds c = (search rules, search rules, omega arith)
 
 -- the byte's bit and the words of the rest make the whole
-module _ (c : tie.After-shared-slice-known invariant-loop decreases-loop) where
-  abbrev at : tie.At-loop invariant-loop decreases-loop
+module _ (c : tie.After-shared_slice_known-1 invariant-loop decreases-loop) where
+  abbrev at : tie.At-loop-k invariant-loop decreases-loop
   at = c.before.before
 
   abbrev start : tie.Start invariant-loop decreases-loop
   start = c.before.before.before
 
-  more : at.loop.k < length start.args.side.now
+  more : at.loop-k.k < length start.args.side.now
   more = omega arith
 
-  byte : get_or start.args.side.now at.loop.k 0 < 50
-  byte = start.pre.1 at.loop.k more
+  byte : get_or start.args.side.now at.loop-k.k 0 < 50
+  byte = start.requires.1 at.loop-k.k more
 
-  whole : at.loop.sum + (1 * 2 ^ get_or start.args.side.now at.loop.k 0) % 2 ^ 64 + word (drop (at.loop.k + 1) start.args.side.now)
+  whole : at.loop-k.sum + (1 * 2 ^ get_or start.args.side.now at.loop-k.k 0) % 2 ^ 64 + word (drop (at.loop-k.k + 1) start.args.side.now)
       ≡ word start.args.side.now
-  whole = omega (arith, bit_of _ (le_of_lt byte), word_more start.args.side.now at.loop.k more, at.loop.inv.2)
+  whole = omega (arith, bit_of _ (le_of_lt byte), word_more start.args.side.now at.loop-k.k more, at.loop-k.invariant.2)
 
-cast_sum : tie.Need-overflow-cast-sum invariant-loop decreases-loop
-cast_sum c = omega (arith, c.shared-slice-known.given c.before.before.loop.k)
+cast_sum : tie.Need-overflow_cast-sum invariant-loop decreases-loop
+cast_sum c = omega (arith, c.shared_slice_known-1.given c.loop-k.k)
 
-shl_sum : tie.Need-overflow-shl-sum invariant-loop decreases-loop
+shl_sum : tie.Need-overflow_shl-sum invariant-loop decreases-loop
 shl_sum c = omega (arith, byte c)
 
-add_sum : tie.Need-overflow-add-sum invariant-loop decreases-loop
+add_sum : tie.Need-overflow_add-sum invariant-loop decreases-loop
 add_sum c = omega (arith, whole c, word-most (start c).args.side.now (start c).requires.0 (start c).requires.1)
 
-loop-again : tie.Need-loop-preserved invariant-loop decreases-loop
+loop-again : tie.Need-loop-k-preserved invariant-loop decreases-loop
 loop-again c = (search rules, search rules, whole c)
 
 returns : tie.Need-returns invariant-loop decreases-loop
 returns c =
-    let l = c.before.loop in
-    let a = c.before.before.args in
+    let l = c.loop-k in
+    let a = c.args in
     let all : l.k ≡ length a.side.now = omega arith in
     omega (arith, l.invariant.2, word_none a.side.now l.k all)
 

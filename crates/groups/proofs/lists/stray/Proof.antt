@@ -12,33 +12,33 @@ use borrow.Author.Rules.{rules}
 use Rattle.groups.proofs.lists.stray.Statement.{statement}
 use Rattle.groups.proofs.lists.stray.Tie as tie
 
-abbrev invariant-loop : tie.invariant-loop
+abbrev invariant-loop : tie.invariant-loop-i
 invariant-loop v p blocks i₀ i = (i ≤ length blocks) × (stray v p blocks ≡ first_from (strays v p blocks) i (length blocks - i))
 
-abbrev decreases-loop : tie.decreases-loop
+abbrev decreases-loop : tie.decreases-loop-i
 decreases-loop v p blocks i₀ i = length blocks - i
 
-loop-holds : tie.Need-loop-init invariant-loop decreases-loop
+loop-holds : tie.Need-loop-i-init invariant-loop decreases-loop
 unfolding stray
 loop-holds c = (omega arith, rw sub-zero)
 
-returns : tie.Need-returns invariant-loop decreases-loop
+returns : tie.Need-returns-then-strays invariant-loop decreases-loop
 returns c =
-    let l = c.before.before.before.loop in
-    let a = c.before.before.before.before.before.args in
-    let here : strays a.v a.p a.blocks.now l.i ≡ true = search (sym c.before.strays.ensures ∙ c.if1.true) in
-    search (sym (l.invariant.1 ∙ first-here _ _ l.i c.before.before.loop-test.true here))
+    let l = c.loop-i in
+    let a = c.args in
+    let here : strays a.v a.p a.blocks.now l.i ≡ true = search (sym c.strays.ensures ∙ c.if-strays.true) in
+    search (sym (l.invariant.1 ∙ first-here _ _ l.i c.loop-i-test.true here))
 
-loop-again : tie.Need-loop-preserved invariant-loop decreases-loop
+loop-again : tie.Need-loop-i-preserved invariant-loop decreases-loop
 loop-again c =
-    let l = c.before.before.before.loop in
-    (omega arith, l.invariant.1 ∙ first_on _ _ l.i c.before.before.loop-test.true (sym c.before.strays.ensures ∙ c.if1.false))
+    let l = c.loop-i in
+    (omega arith, l.invariant.1 ∙ first_on _ _ l.i c.loop-i-test.true (sym c.strays.ensures ∙ c.if-strays.false))
 
-returns-2 : tie.Need-returns-2 invariant-loop decreases-loop
+returns-2 : tie.Need-returns invariant-loop decreases-loop
 unfolding first_from
 returns-2 c =
-    let l = c.before.loop in
-    let none : length c.before.before.before.args.blocks.now - l.i ≡ 0 = omega arith in
+    let l = c.loop-i in
+    let none : length c.args.blocks.now - l.i ≡ 0 = omega arith in
     sym (rw none at l.invariant.1)
 
 pub stray_spec : {M : Type 1} → statement M

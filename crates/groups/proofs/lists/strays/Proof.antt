@@ -8,20 +8,20 @@ use borrow.Author.Rules.{rules}
 use Rattle.groups.proofs.lists.strays.Statement.{statement}
 use Rattle.groups.proofs.lists.strays.Tie as tie
 
-cast_if1 : tie.Need-overflow-cast-if1
-cast_if1 c = omega (arith, c.shared-slice-known2.given c.before.before.args.i)
+cast_if1 : tie.Need-overflow_cast-byte
+cast_if1 c = omega (arith, c.shared_slice_known-2-1.given c.args.i)
 
-sub_start : tie.Need-overflow-sub-start
-sub_start c = let a = c.before.before.before.args in omega (arith, mod-le a.i (2 * a.p))
+sub_start : tie.Need-overflow_sub-start
+sub_start c = let a = c.args in omega (arith, mod-le a.i (2 * a.p))
 
-returns : tie.Need-returns
+returns : tie.Need-returns-then-byte-v
 returns c =
-    let a = c.before.before.before.before.before.args in
+    let a = c.args in
     let back : a.i - (a.i - a.i % (2 * a.p)) ≡ a.i % (2 * a.p) = omega (arith, mod-le a.i (2 * a.p)) in
-    rw (lt-ltb _ _ c.before.before.if1.true) (rw back at c.stands-among.ensures)
+    rw (lt-ltb _ _ c.if-byte-v.true) (rw back at c.stands_among.ensures)
 
-returns-2 : tie.Need-returns-2
-returns-2 c = rw (le-ltb _ _ c.if1.false)
+returns-2 : tie.Need-returns-else-byte-v
+returns-2 c = rw (le-ltb _ _ c.if-byte-v.false)
 
 pub strays_spec : {M : Type 1} → statement M
 strays_spec =

@@ -13,47 +13,47 @@ use Rattle.judging.proofs.order.judged_job.Statement.{statement}
 use Rattle.judging.proofs.order.judged_job.Tie as tie
 
 -- past the lengths
-measured : (c : tie.Else1) → slices c.before.before.before.before.args.head c.before.before.before.before.args.blocks.now
-    c.before.before.before.before.args.readings.now ≡ accepted
-measured c = sym c.before.before.slices-refusal.ensures ∙ accepting _ (sym c.before.is-refused.ensures ∙ c.if1.false)
+measured : (c : tie.Else-is_refused) → slices c.args.head c.args.blocks.now
+    c.args.readings.now ≡ accepted
+measured c = sym c.slices_refusal-sliced.ensures ∙ accepting _ (sym c.is_refused.ensures ∙ c.if-is_refused.false)
 
 -- what the tests come to
-module _ (c : tie.After-first2) where
+module _ (c : tie.After-first-verdict) where
   abbrev start : tie.Start
   start = c.before.before.before.before.before.before.before.before.before
 
-  balanced : c.before.before.before.before.judge-by-differences.result.verdict ≡ judge_verdict start.args.head start.args.blocks.now
-  balanced = ap (λ (r : Judged). r.verdict) c.before.before.before.before.judge-by-differences.ensures
+  balanced : c.judge_by_differences-judged.result.verdict ≡ judge_verdict start.args.head start.args.blocks.now
+  balanced = ap (λ (r : Judged). r.verdict) c.judge_by_differences-judged.ensures
 
-  restrained : c.before.before.before.restraint-refusal.result ≡ restraint start.args.head start.args.set start.args.sum
-  restrained = rw (to_z-of_z start.fits.sum) at
-      c.before.before.before.restraint-refusal.ensures
+  restrained : c.restraint_refusal-restrained.result ≡ restraint start.args.head start.args.set start.args.sum
+  restrained = rw (to_z-of_z start.ranges.sum) at
+      c.restraint_refusal-restrained.ensures
 
-  told : c.first2.result ≡ job_verdict start.args.head start.args.blocks.now start.args.readings.now start.args.set start.args.sum
+  told : c.first-verdict.result ≡ job_verdict start.args.head start.args.blocks.now start.args.readings.now start.args.set start.args.sum
   told =
       let past = measured c.before.before.before.before.before in
-      let chained = rw c.before.first.ensures at c.first2.ensures in
-      job-told _ _ _ _ _ past balanced restrained c.before.before.reach-refusal.ensures (search chained)
+      let chained = rw c.first.ensures at c.first-verdict.ensures in
+      job-told _ _ _ _ _ past balanced restrained c.reach_refusal-reached.ensures (search chained)
 
-returns : tie.Need-returns
+returns : tie.Need-returns-then-is_refused
 returns c =
-    let r = sym c.before.before.is-refused.ensures ∙ c.before.if1.true in
-    c.no-judgement.ensures ∙ no_judgement_is _ _ _ _ _ _ r
-    (job-slices _ _ _ _ _ _ _ (sym c.before.before.before.slices-refusal.ensures ∙ refusing _ r))
+    let r = sym c.is_refused.ensures ∙ c.if-is_refused.true in
+    c.no_judgement.ensures ∙ no_judgement_is _ _ _ _ _ _ r
+    (job-slices _ _ _ _ _ _ _ (sym c.slices_refusal-sliced.ensures ∙ refusing _ r))
 
-restraint_refusal_requires : tie.Need-restraint-refusal-requires
+restraint_refusal_requires : tie.Need-restraint_refusal-restrained-requires
 restraint_refusal_requires c κs = (sliced _ _ _ (measured c.before)).sizes
 
-returns-2 : tie.Need-returns-2
+returns-2 : tie.Need-returns-then-is_refused-2
 returns-2 c =
-    let r = sym c.before.before.is-refused2.ensures ∙ c.before.if2.true in
-    c.no-judgement2.ensures ∙ no_judgement_is _ _ _ _ _ _ r (sym (told c.before.before.before) ∙ refusing _ r)
+    let r = sym c.is_refused-2.ensures ∙ c.if-is_refused-2.true in
+    c.no_judgement-then-is_refused-2.ensures ∙ no_judgement_is _ _ _ _ _ _ r (sym (told c.before.before.before) ∙ refusing _ r)
 
-returns-3 : tie.Need-returns-3
+returns-3 : tie.Need-returns
 returns-3 c =
-    let e = sym (told c.before.before) ∙ accepting _ (sym c.before.is-refused2.ensures ∙ c.if2.false) in
+    let e = sym (told c.before.before) ∙ accepting _ (sym c.is_refused-2.ensures ∙ c.if-is_refused-2.false) in
     let j = (opened _ _ (opened _ _ (sym (job-tests _ _ _ _ _ (measured c.before.before.before.before.before.before.before)) ∙ e)).0).0 in
-    c.before.before.before.before.before.before.judge-by-differences.ensures ∙ judgement-is _ _ _ _ _ e j
+    c.judge_by_differences-judged.ensures ∙ judgement-is _ _ _ _ _ e j
 
 pub judged_job_spec : {M : Type 1} → statement M
 judged_job_spec =

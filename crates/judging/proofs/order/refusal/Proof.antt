@@ -8,13 +8,13 @@ use Rattle.judging.proofs.order.refusal.Statement.{statement}
 use Rattle.judging.proofs.order.refusal.Tie as tie
 
 -- what the judgement is
-module _ (c : tie.After-judged-job) where
+module _ (c : tie.After-judged_job-judged) where
   abbrev judgement : Judged
-  judgement = job_judged c.before.before.args.head c.before.before.args.blocks.now c.before.before.args.readings.now
-      c.before.before.args.set c.before.before.args.sum
+  judgement = job_judged c.args.head c.args.blocks.now c.args.readings.now
+      c.args.set c.args.sum
 
-  told : c.judged-job.result ≡ judgement
-  told = search (rw (to_z-of_z c.before.before.ranges.sum) at c.judged-job.ensures)
+  told : c.judged_job-judged.result ≡ judgement
+  told = search (rw (to_z-of_z c.ranges.sum) at c.judged_job-judged.ensures)
 
 returns : tie.Need-returns
 returns c = search (ap (λ (r : Judged). r.verdict) {y = judgement c} (told c))

@@ -16,23 +16,23 @@ use Rattle.judging.proofs.restraint.restraint_refusal.Statement.{statement}
 use Rattle.judging.proofs.restraint.restraint_refusal.Tie as tie
 
 -- v, and the shift by it
-counted : (c : tie.After-objects) → c.objects.result ≡ objects c.before.before.args.head
-counted c = c.objects.ensures ∙ within-sizes _ _ c.before.before.requires
+counted : (c : tie.After-objects-v) → c.objects-v.result ≡ objects c.args.head
+counted c = c.objects-v.ensures ∙ within-sizes _ _ c.requires
 
-returns : tie.Need-returns
-returns c = sym (restrained_no c.before.args.head c.before.args.set c.before.args.sum (λ r. omega (arith, r.set-some)))
+returns : tie.Need-returns-then-set-eq0
+returns c = sym (restrained_no c.args.head c.args.set c.args.sum (λ r. omega (arith, r.set-some)))
 
-shr_if2 : tie.Need-overflow-shr-if2
-shr_if2 c = let f = c.before.before.requires in omega (arith, counted (c))
+shr_if2 : tie.Need-overflow_shr-set
+shr_if2 c = let f = c.requires in omega (arith, counted (c))
 
-returns-2 : tie.Need-returns-2
+returns-2 : tie.Need-returns-then-set-v-ne0
 returns-2 c =
     let s = c.before.before.before in
     sym (restrained_no s.args.head s.args.set s.args.sum
-    (λ r. c.if2.true (rw (counted c.before)
+    (λ r. c.if-set-v-ne0.true (rw (counted c.before)
     (search (past_none (objects s.args.head) s.args.set r.set-inside)))))
 
-returns-3 : tie.Need-returns-3
+returns-3 : tie.Need-returns-then-sum
 returns-3 c =
     let s = c.before.before.before.before in
     sym (restrained_no s.args.head s.args.set
@@ -41,10 +41,10 @@ returns-3 c =
       arith,
       r.sum-most,
       too_low s.args.sum (sum_limit - 1)
-          (search (rw (to_z-of_z s.ranges.sum) at c.if3.true)),
+          (search (rw (to_z-of_z s.ranges.sum) at c.if-sum.true)),
     )))
 
-returns-4 : tie.Need-returns-4
+returns-4 : tie.Need-returns-then-sum-gt-SUM_LIMIT
 returns-4 c =
     let s = c.before.before.before.before.before in
     sym (restrained_no s.args.head s.args.set
@@ -53,38 +53,38 @@ returns-4 c =
       arith,
       r.sum-most,
       too_high s.args.sum sum_limit
-          (search (rw (to_z-of_z s.ranges.sum) at c.if4.true)),
+          (search (rw (to_z-of_z s.ranges.sum) at c.if-sum-gt-SUM_LIMIT.true)),
     )))
 
 -- past the tests of 7
-module _ (c : tie.Else4) where
+module _ (c : tie.Else-sum-gt-SUM_LIMIT) where
   abbrev asked : tie.Start
   asked = c.before.before.before.before.before
 
   orderly : InOrder asked.args.head asked.args.set asked.args.sum
   orderly =
-      let read = to_z-of_z asked.fits.sum in
+      let read = to_z-of_z asked.ranges.sum in
       let shifted : asked.args.set / 2 ^ objects asked.args.head ≡ 0 =
-      ap (λ (v : ℕ). asked.args.set / 2 ^ v) (sym (counted c.before.before.before)) ∙ c.before.before.if2.false in
+      ap (λ (v : ℕ). asked.args.set / 2 ^ v) (sym (counted c.before.before.before)) ∙ c.if-set-v-ne0.false in
       record {
-        set-some = omega (arith, c.before.before.before.before.if1.false);
+        set-some = omega (arith, c.if-set-eq0.false);
         set-inside = none_past (objects asked.args.head) asked.args.set shifted;
-        sum-most = between asked.args.sum (sum_limit - 1) (search (rw read at c.before.if3.false))
-            (search (rw read at c.if4.false));
+        sum-most = between asked.args.sum (sum_limit - 1) (search (rw read at c.if-sum.false))
+            (search (rw read at c.if-sum-gt-SUM_LIMIT.false));
       }
 
 -- how many objects the set has
 standing : (c : tie.After-ones) → c.ones.result ≡ members (objects (asked c.before).args.head) (asked c.before).args.set
 standing c = let s = asked c.before in
-    c.ones.ensures ∙ ones_members _ _ (omega (arith, s.pre.objects-most)) (orderly c.before).set-inside
+    c.ones.ensures ∙ ones_members _ _ (omega (arith, s.requires.objects-most)) (orderly c.before).set-inside
 
-returns-5 : tie.Need-returns-5
+returns-5 : tie.Need-returns-then-ones-lt2
 returns-5 c = let s = asked c.before.before in
-    sym (one_standard s.args.head s.args.set s.args.sum (orderly c.before.before) (omega (arith, standing c.before, c.if5.true)))
+    sym (one_standard s.args.head s.args.set s.args.sum (orderly c.before.before) (omega (arith, standing c.before, c.if-ones-lt2.true)))
 
-returns-6 : tie.Need-returns-6
+returns-6 : tie.Need-returns
 returns-6 c = let s = asked c.before.before in
-    sym (restrained_yes s.args.head s.args.set s.args.sum (orderly c.before.before) (omega (arith, standing c.before, c.if5.false)))
+    sym (restrained_yes s.args.head s.args.set s.args.sum (orderly c.before.before) (omega (arith, standing c.before, c.if-ones-lt2.false)))
 
 pub restraint_refusal_spec : {M : Type 1} → statement M
 restraint_refusal_spec =

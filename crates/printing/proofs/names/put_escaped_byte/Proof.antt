@@ -24,7 +24,6 @@ put_escaped_byte_spec =
     (tie.spec
     (λ c κs. tt)
     (λ c κs. tt)
-    (λ c. search rules)
     (λ c κs. tt)
     (λ c κs. tt)
     (λ c. search rules)

@@ -8,15 +8,15 @@ use Rattle.sheets.proofs.claimed.Spreads.{claimed-none, claimed-some, made}
 use Rattle.sheets.proofs.claimed.claimed_spread.Statement.{statement}
 use Rattle.sheets.proofs.claimed.claimed_spread.Tie as tie
 
-returns : tie.Need-returns
-returns c = claimed-none c.before.before.args.spread (sym c.before.says_none.ensures ∙ c.if1.true)
+returns : tie.Need-returns-then-says_none
+returns c = claimed-none c.args.spread (sym c.says_none.ensures ∙ c.if-says_none.true)
 
-returns-2 : tie.Need-returns-2
+returns-2 : tie.Need-returns
 returns-2 c =
-    let claimed = c.before.spread-claimed in
-    claimed-some c.before.before.before.before.args.spread (sym c.before.before.before.says_none.ensures ∙ c.before.before.if1.false) (to_z w64 (of_z w64 claimed.result))
-    (to_z-of_z w64 claimed.result (search rules) ∙ claimed.ensures) c.value-from.result.value
-    (made c.value-from.result (to_z w64 (of_z w64 claimed.result)) c.value-from.ensures)
+    let claimed = c.spread_claimed-hundredths in
+    claimed-some c.args.spread (sym c.says_none.ensures ∙ c.if-says_none.false) (to_z w64 (of_z w64 claimed.result))
+    (to_z-of_z w64 claimed.result (search rules) ∙ claimed.ensures) c.value_from-value.result.value
+    (made c.value_from-value.result (to_z w64 (of_z w64 claimed.result)) c.value_from-value.ensures)
 
 pub claimed_spread_spec : {M : Type 1} → statement M
 claimed_spread_spec = tie.close (tie.spec (λ c κs. search rules) returns (λ c κs. search rules) (λ c κs. search rules) returns-2)

@@ -3,11 +3,11 @@ use borrow.Author.Rules.{rules}
 use Rattle.sheets.proofs.claimed.says_none.Statement.{statement}
 use Rattle.sheets.proofs.claimed.says_none.Tie as tie
 
-returns : tie.Need-returns
-returns c = rw c.before.if1.true
+returns : tie.Need-returns-then-spread
+returns c = rw c.if-spread.true
 
-returns-2 : tie.Need-returns-2
-returns-2 c = rw c.if1.false
+returns-2 : tie.Need-returns
+returns-2 c = rw c.if-spread.false
 
 pub says_none_spec : {M : Type 1} → statement M
 says_none_spec = tie.close (tie.spec returns returns-2)

@@ -7,16 +7,16 @@ use mir.ValLaws.{to_z_pos}
 use Rattle.sheets.proofs.claimed.spread_claimed.Statement.{statement}
 use Rattle.sheets.proofs.claimed.spread_claimed.Tie as tie
 
-returns : tie.Need-returns
-returns c = rw c.if1.true
+returns : tie.Need-returns-then-spread
+returns c = rw c.if-spread.true
 
-returns-2 : tie.Need-returns-2
+returns-2 : tie.Need-returns-then-spread-lt9007199254740992
 returns-2 c =
-    let k = c.before.before.before.before.args.spread.hundredths in
-    rw (c.before.before.before.if1.false, lt-ltb k 9007199254740992 c.before.if2.true, to_z_pos w64 k (omega arith))
+    let k = c.args.spread.hundredths in
+    rw (c.if-spread.false, lt-ltb k 9007199254740992 c.if-spread-lt9007199254740992.true, to_z_pos w64 k (omega arith))
 
-returns-3 : tie.Need-returns-3
-returns-3 c = rw (c.before.before.if1.false, le-ltb c.before.before.before.args.spread.hundredths 9007199254740992 c.if2.false)
+returns-3 : tie.Need-returns
+returns-3 c = rw (c.if-spread.false, le-ltb c.args.spread.hundredths 9007199254740992 c.if-spread-lt9007199254740992.false)
 
 pub spread_claimed_spec : {M : Type 1} → statement M
 spread_claimed_spec = tie.close (tie.spec returns (λ c. search rules) returns-2 returns-3)

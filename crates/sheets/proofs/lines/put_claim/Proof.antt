@@ -16,49 +16,49 @@ use Rattle.sheets.proofs.lines.Cases.{added-after, added-other, added_none, adde
 use Rattle.sheets.proofs.lines.put_claim.Statement.{statement}
 use Rattle.sheets.proofs.lines.put_claim.Tie as tie
 
-returns : tie.Need-returns
+returns : tie.Need-returns-then-read-ne0
 returns c =
-    let a = c.before.before.before.args in
-    sym (ap (λ x. put x a.read.count a.claims.now) (added-after a.line.now a.read c.if1.true))
+    let a = c.args in
+    sym (ap (λ x. put x a.read.count a.claims.now) (added-after a.line.now a.read c.if-read-ne0.true))
 
-returns-2 : tie.Need-returns-2
+returns-2 : tie.Need-returns-then-not-word_is
 unfolding ascii
 returns-2 c =
-    let a = c.before.before.before.before.before.before.args in
+    let a = c.args in
     sym (ap (λ x. put x a.read.count a.claims.now)
-    (added-other a.line.now a.read c.before.before.before.if1.false (sym c.before.word-is.ensures ∙ not-true _ c.if2.true)))
+    (added-other a.line.now a.read c.if-read-ne0.false (sym c.word_is.ensures ∙ not-true _ c.if-not-word_is.true-raw)))
 
-returns-3 : tie.Need-returns-3
+returns-3 : tie.Need-returns-then-not-claimed
 unfolding ascii
 returns-3 c =
-    let a = c.before.before.before.before.before.before.before.before.before.args in
-    let claim = c.before.before.claim in
+    let a = c.args in
+    let claim = c.claim-claimed in
     sym (ap (λ x. put x a.read.count a.claims.now)
-    (added_none a.line.now a.read c.before.before.before.before.before.before.if1.false claim.result (sym c.before.before.before.before.word-is.ensures ∙ not-false _ c.before.before.before.if2.false)
-    claim.ensures (not-true _ c.if3.true)))
+    (added_none a.line.now a.read c.if-read-ne0.false claim.result (sym c.word_is.ensures ∙ not-false _ c.if-not-word_is.false-raw)
+    claim.ensures (not-true _ c.if-not-claimed.true)))
 
-same_length : tie.Need-same-length
+same_length : tie.Need-shape_of-claims
 same_length c = simp length-set
 
-returns-4 : tie.Need-returns-4
+returns-4 : tie.Need-returns-then-at-claims
 unfolding ascii
 returns-4 c =
-    let a = c.before.before.before.before.before.before.before.before.before.before.before.args in
-    let claim = c.before.before.before.before.claim in
+    let a = c.args in
+    let claim = c.claim-claimed in
     ap (set a.claims.now a.read.count) (to_z-of_z w64 claim.result.number (search rules))
     ∙ sym (ap (λ x. put x a.read.count a.claims.now)
-    (added-one a.line.now a.read c.before.before.before.before.before.before.before.before.if1.false claim.result (sym c.before.before.before.before.before.before.word-is.ensures ∙ not-false _ c.before.before.before.before.before.if2.false)
-    claim.ensures (not-false _ c.before.before.if3.false)))
+    (added-one a.line.now a.read c.if-read-ne0.false claim.result (sym c.word_is.ensures ∙ not-false _ c.if-not-word_is.false-raw)
+    claim.ensures (not-false _ c.if-not-claimed.false)))
 
-returns-5 : tie.Need-returns-5
+returns-5 : tie.Need-returns-else-at-claims
 unfolding ascii
 returns-5 c =
-    let a = c.before.before.before.before.before.before.before.before.before.before.before.args in
-    let claim = c.before.before.before.before.claim in
+    let a = c.args in
+    let claim = c.claim-claimed in
     sym (ap (λ x. put x a.read.count a.claims.now)
-    (added-one a.line.now a.read c.before.before.before.before.before.before.before.before.if1.false claim.result (sym c.before.before.before.before.before.before.word-is.ensures ∙ not-false _ c.before.before.before.before.before.if2.false)
-    claim.ensures (not-false _ c.before.before.if3.false))
-    ∙ set_out a.claims.now a.read.count claim.result.number c.if4.false)
+    (added-one a.line.now a.read c.if-read-ne0.false claim.result (sym c.word_is.ensures ∙ not-false _ c.if-not-word_is.false-raw)
+    claim.ensures (not-false _ c.if-not-claimed.false))
+    ∙ set_out a.claims.now a.read.count claim.result.number c.if-at-claims.false)
 
 pub put_claim_spec : {M : Type 1} → statement M
 put_claim_spec = tie.close (tie.spec returns (λ c. search rules) (λ c κs. search rules) returns-2 (λ c κs. search rules) returns-3 (λ c. search rules) (λ c. search rules) same_length returns-4 returns-5)

@@ -11,32 +11,32 @@ use Rattle.sheets.proofs.lines.Cases.{line_after, line-value, line-spread, line_
 use Rattle.sheets.proofs.lines.with_line.Statement.{statement}
 use Rattle.sheets.proofs.lines.with_line.Tie as tie
 
-returns : tie.Need-returns
+returns : tie.Need-returns-then-read-ne0
 returns c =
-    let a = c.before.before.before.args in
-    sym (line_after a.k a.line.now a.read c.if1.true)
+    let a = c.args in
+    sym (line_after a.k a.line.now a.read c.if-read-ne0.true)
 
-returns-2 : tie.Need-returns-2
+returns-2 : tie.Need-returns-then-word_is
 unfolding ascii
 returns-2 c =
-    let a = c.before.before.before.before.before.before.before.args in
+    let a = c.args in
     c.with_value.ensures
-    ∙ sym (line-value a.k a.line.now a.read c.before.before.before.before.if1.false (sym c.before.before.word-is.ensures ∙ c.before.if2.true))
+    ∙ sym (line-value a.k a.line.now a.read c.if-read-ne0.false (sym c.word_is.ensures ∙ c.if-word_is.true))
 
-returns-3 : tie.Need-returns-3
+returns-3 : tie.Need-returns-then-word_is-2
 unfolding ascii
 returns-3 c =
-    let a = c.before.before.before.before.before.before.before.before.before.before.args in
-    c.with-spread.ensures
-    ∙ sym (line-spread a.k a.line.now a.read c.before.before.before.before.before.before.before.if1.false (sym c.before.before.before.before.before.word-is.ensures ∙ c.before.before.before.before.if2.false)
-    (sym c.before.before.word-is2.ensures ∙ c.before.if3.true))
+    let a = c.args in
+    c.with_spread.ensures
+    ∙ sym (line-spread a.k a.line.now a.read c.if-read-ne0.false (sym c.word_is.ensures ∙ c.if-word_is.false)
+    (sym c.word_is-2.ensures ∙ c.if-word_is-2.true))
 
-returns-4 : tie.Need-returns-4
+returns-4 : tie.Need-returns
 unfolding ascii
 returns-4 c =
-    let a = c.before.before.before.before.before.before.before.before.before.args in
-    sym (line_other a.k a.line.now a.read c.before.before.before.before.before.before.if1.false (sym c.before.before.before.before.word-is.ensures ∙ c.before.before.before.if2.false)
-    (sym c.before.word-is2.ensures ∙ c.if3.false))
+    let a = c.args in
+    sym (line_other a.k a.line.now a.read c.if-read-ne0.false (sym c.word_is.ensures ∙ c.if-word_is.false)
+    (sym c.word_is-2.ensures ∙ c.if-word_is-2.false))
 
 pub with_line_spec : {M : Type 1} → statement M
 with_line_spec = tie.close (tie.spec returns (λ c. search rules) (λ c κs. search rules) (λ c κs. search rules) returns-2 (λ c. search rules) (λ c κs. search rules) (λ c κs. search rules) returns-3 returns-4)

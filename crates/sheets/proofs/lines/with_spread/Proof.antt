@@ -10,23 +10,23 @@ use Rattle.sheets.proofs.lines.Cases.{spread-again, spread_lost, spread-read}
 use Rattle.sheets.proofs.lines.with_spread.Statement.{statement}
 use Rattle.sheets.proofs.lines.with_spread.Tie as tie
 
-returns : tie.Need-returns
+returns : tie.Need-returns-then-read
 returns c =
-    let a = c.before.before.before.args in
-    c.unread.ensures ∙ sym (spread-again a.k a.line.now a.read c.before.if1.true)
+    let a = c.args in
+    c.unread.ensures ∙ sym (spread-again a.k a.line.now a.read c.if-read.true)
 
-returns-2 : tie.Need-returns-2
+returns-2 : tie.Need-returns-then-not-claimed
 returns-2 c =
-    let a = c.before.before.before.before.before.before.args in
-    let claim = c.before.before.before.spread in
-    c.unread2.ensures
-    ∙ sym (spread_lost a.k a.line.now a.read claim.result c.before.before.before.before.if1.false claim.ensures (not-true _ c.before.if2.true))
+    let a = c.args in
+    let claim = c.spread-claimed in
+    c.unread-then-not-claimed.ensures
+    ∙ sym (spread_lost a.k a.line.now a.read claim.result c.if-read.false claim.ensures (not-true _ c.if-not-claimed.true))
 
-returns-3 : tie.Need-returns-3
+returns-3 : tie.Need-returns
 returns-3 c =
-    let a = c.before.before.before.before.before.args in
-    let claim = c.before.before.spread in
-    sym (spread-read a.k a.line.now a.read claim.result c.before.before.before.if1.false claim.ensures (not-false _ c.if2.false))
+    let a = c.args in
+    let claim = c.spread-claimed in
+    sym (spread-read a.k a.line.now a.read claim.result c.if-read.false claim.ensures (not-false _ c.if-not-claimed.false))
 
 pub with_spread_spec : {M : Type 1} → statement M
 with_spread_spec = tie.close (tie.spec (λ c κs. search rules) returns (λ c κs. search rules) (λ c κs. search rules) returns-2 returns-3)

@@ -11,27 +11,27 @@ use Rattle.sheets.proofs.numerals.is_decimal.Statement.{statement}
 use Rattle.sheets.proofs.numerals.is_decimal.Tie as tie
 
 -- there is a byte behind which the digits stand
-minus : (c : tie.Then1) → eqb (get_or c.before.before.before.args.word.now 0 0) 45 ≡ true
-minus c = sym c.before.begins-with-minus.ensures ∙ c.if1.true
+minus : (c : tie.Then-begins_with_minus) → eqb (get_or c.args.word.now 0 0) 45 ≡ true
+minus c = sym c.begins_with_minus.ensures ∙ c.if-begins_with_minus.true
 
-long : (c : tie.Then1) → 1 ≤ length c.before.before.before.args.word.now
-long c = some_byte c.before.before.before.args.word.now (minus c)
+long : (c : tie.Then-begins_with_minus) → 1 ≤ length c.args.word.now
+long c = some_byte c.args.word.now (minus c)
 
-sub_is_digits : tie.Need-overflow-sub-is-digits
+sub_is_digits : tie.Need-slice_bounds-is_digits-count
 sub_is_digits c = long c
 
-part_is_digits_start : tie.Need-slice-bounds-is-digits-start
+part_is_digits_start : tie.Need-slice_bounds-is_digits-start
 part_is_digits_start c = long c
 
-returns : tie.Need-returns
+returns : tie.Need-returns-then-begins_with_minus
 returns c =
-    let w = c.before.before.before.before.before.args.word.now in
-    decimal-minus w (minus c.before.before) c.is-digits.result (c.is-digits.ensures ∙ ap in_digits (behind_first w))
+    let w = c.args.word.now in
+    decimal-minus w (minus c.before.before) c.is_digits.result (c.is_digits.ensures ∙ ap in_digits (behind_first w))
 
-returns-2 : tie.Need-returns-2
+returns-2 : tie.Need-returns
 returns-2 c =
-    let w = c.before.before.before.before.args.word.now in
-    decimal-plain w (sym c.before.before.begins-with-minus.ensures ∙ c.before.if1.false) c.is-digits2.result c.is-digits2.ensures
+    let w = c.args.word.now in
+    decimal-plain w (sym c.begins_with_minus.ensures ∙ c.if-begins_with_minus.false) c.is_digits-2.result c.is_digits-2.ensures
 
 pub is_decimal_spec : {M : Type 1} → statement M
 is_decimal_spec = tie.close (tie.spec (λ c κs. search rules) sub_is_digits part_is_digits_start (λ c. search rules) (λ c κs. search rules) returns (λ c κs. search rules) returns-2)

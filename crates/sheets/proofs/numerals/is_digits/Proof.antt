@@ -9,42 +9,42 @@ use Rattle.sheets.proofs.numerals.Digits.{digit_low, digit_high, digit-later, di
 use Rattle.sheets.proofs.numerals.is_digits.Statement.{statement}
 use Rattle.sheets.proofs.numerals.is_digits.Tie as tie
 
-abbrev invariant-loop : tie.invariant-loop
+abbrev invariant-loop : tie.invariant-loop-i
 invariant-loop word i₀ i = (i ≤ length word) × (digital word ≡ digital (drop i word))
 
-abbrev decreases-loop : tie.decreases-loop
+abbrev decreases-loop : tie.decreases-loop-i
 decreases-loop word i₀ i = length word - i
 
-loop-holds : tie.Need-loop-init invariant-loop decreases-loop
+loop-holds : tie.Need-loop-i-init invariant-loop decreases-loop
 loop-holds c = (omega arith, refl)
 
-returns : tie.Need-returns invariant-loop decreases-loop
+returns : tie.Need-returns-then-found-lt48 invariant-loop decreases-loop
 returns c =
-    let l = c.before.before.before.loop in
-    let w = c.before.before.before.before.args.word.now in
+    let l = c.loop-i in
+    let w = c.args.word.now in
     let more : l.i < length w = omega arith in
-    not_in_digits w (l.invariant.1 ∙ digit_low w l.i more c.if1.true)
+    not_in_digits w (l.invariant.1 ∙ digit_low w l.i more c.if-found-lt48.true)
 
-returns-2 : tie.Need-returns-2 invariant-loop decreases-loop
+returns-2 : tie.Need-returns-then-found-gt57 invariant-loop decreases-loop
 returns-2 c =
-    let l = c.before.before.before.before.loop in
-    let w = c.before.before.before.before.before.args.word.now in
+    let l = c.loop-i in
+    let w = c.args.word.now in
     let more : l.i < length w = omega arith in
-    not_in_digits w (l.invariant.1 ∙ digit_high w l.i more c.if2.true)
+    not_in_digits w (l.invariant.1 ∙ digit_high w l.i more c.if-found-gt57.true)
 
-loop-again : tie.Need-loop-preserved invariant-loop decreases-loop
+loop-again : tie.Need-loop-i-preserved invariant-loop decreases-loop
 loop-again c =
-    let l = c.before.before.before.before.loop in
-    let w = c.before.before.before.before.before.args.word.now in
+    let l = c.loop-i in
+    let w = c.args.word.now in
     let more : l.i < length w = omega arith in
     let low : 48 ≤ get_or w l.i 0 = omega arith in
     let high : get_or w l.i 0 ≤ 57 = omega arith in
     (omega arith, l.invariant.1 ∙ digit-later w l.i more low high)
 
-returns-3 : tie.Need-returns-3 invariant-loop decreases-loop
+returns-3 : tie.Need-returns invariant-loop decreases-loop
 returns-3 c =
-    let l = c.before.loop in
-    let w = c.before.before.args.word.now in
+    let l = c.loop-i in
+    let w = c.args.word.now in
     let end : l.i ≡ length w = omega arith in
     search (in_digits_lem w l.i end (l.invariant.1 ∙ digital-end w l.i end))
 

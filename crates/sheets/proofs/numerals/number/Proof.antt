@@ -21,76 +21,76 @@ use Rattle.sheets.proofs.numerals.Digits.{
 use Rattle.sheets.proofs.numerals.number.Statement.{statement}
 use Rattle.sheets.proofs.numerals.number.Tie as tie
 
-abbrev invariant-loop : tie.invariant-loop
+abbrev invariant-loop : tie.invariant-loop-i
 invariant-loop word limit n₀ i₀ n i =
     (i ≤ length word) × (n ≤ limit) × (digital word ≡ digital (drop i word)) × (decimal 0 word ≡ decimal n (drop i word))
 
-abbrev decreases-loop : tie.decreases-loop
+abbrev decreases-loop : tie.decreases-loop-i
 decreases-loop word limit n₀ i₀ n i = length word - i
 
-loop-holds : tie.Need-loop-init invariant-loop decreases-loop
+loop-holds : tie.Need-loop-i-init invariant-loop decreases-loop
 loop-holds c = (omega arith, omega arith, refl, refl)
 
-returns : tie.Need-returns invariant-loop decreases-loop
+returns : tie.Need-returns-then-byte-lt48 invariant-loop decreases-loop
 returns c =
-    let l = c.before.before.before.before.loop in
-    let a = c.before.before.before.before.before.before.args in
+    let l = c.loop-i in
+    let a = c.args in
     let w = a.word.now in
     let more : l.i < length w = omega arith in
-    c.no_number.ensures ∙ sym (no_digits a.limit w (l.invariant.2 ∙ digit_low w l.i more c.before.if1.true))
+    c.no_number.ensures ∙ sym (no_digits a.limit w (l.invariant.2 ∙ digit_low w l.i more c.if-byte-lt48.true))
 
-returns-2 : tie.Need-returns-2 invariant-loop decreases-loop
+returns-2 : tie.Need-returns-then-byte-gt57 invariant-loop decreases-loop
 returns-2 c =
-    let l = c.before.before.before.before.before.loop in
-    let a = c.before.before.before.before.before.before.before.args in
+    let l = c.loop-i in
+    let a = c.args in
     let w = a.word.now in
     let more : l.i < length w = omega arith in
-    c.no-number2.ensures ∙ sym (no_digits a.limit w (l.invariant.2 ∙ digit_high w l.i more c.before.if2.true))
+    c.no_number-then-byte-gt57.ensures ∙ sym (no_digits a.limit w (l.invariant.2 ∙ digit_high w l.i more c.if-byte-gt57.true))
 
 -- the digit alone is above the limit
-returns-3 : tie.Need-returns-3 invariant-loop decreases-loop
+returns-3 : tie.Need-returns-then-limit-digit invariant-loop decreases-loop
 returns-3 c =
-    let l = c.before.before.before.before.before.before.loop in
-    let a = c.before.before.before.before.before.before.before.before.args in
+    let l = c.loop-i in
+    let a = c.args in
     let w = a.word.now in
     let more : l.i < length w = omega arith in
     let step = l.invariant.3 ∙ decimal-later w l.i more l.n in
     let grows = decimal_grows (10 * l.n + (get_or w l.i 0 - 48)) (drop (l.i + 1) w) in
-    c.no-number3.ensures ∙ sym (too_large a.limit w (omega (arith, step, grows, c.before.if3.true)))
+    c.no_number-then-limit-digit.ensures ∙ sym (too_large a.limit w (omega (arith, step, grows, c.if-limit-digit.true)))
 
-returns-4 : tie.Need-returns-4 invariant-loop decreases-loop
+returns-4 : tie.Need-returns-then-limit-digit-2 invariant-loop decreases-loop
 returns-4 c =
-    let l = c.before.before.before.before.before.before.before.loop in
-    let a = c.before.before.before.before.before.before.before.before.before.args in
+    let l = c.loop-i in
+    let a = c.args in
     let w = a.word.now in
     let more : l.i < length w = omega arith in
     let step = l.invariant.3 ∙ decimal-later w l.i more l.n in
     let grows = decimal_grows (10 * l.n + (get_or w l.i 0 - 48)) (drop (l.i + 1) w) in
-    c.no-number4.ensures ∙ sym (too_large a.limit w (omega (arith, step, grows, c.before.if4.true)))
+    c.no_number-then-limit-digit-2.ensures ∙ sym (too_large a.limit w (omega (arith, step, grows, c.if-limit-digit-2.true)))
 
-loop-again : tie.Need-loop-preserved invariant-loop decreases-loop
+loop-again : tie.Need-loop-i-preserved invariant-loop decreases-loop
 loop-again c =
-    let l = c.before.before.before.before.before.before.loop in
-    let a = c.before.before.before.before.before.before.before.before.args in
+    let l = c.loop-i in
+    let a = c.args in
     let w = a.word.now in
     let more : l.i < length w = omega arith in
     let low : 48 ≤ get_or w l.i 0 = omega arith in
     let high : get_or w l.i 0 ≤ 57 = omega arith in
     (omega arith, omega arith, l.invariant.2 ∙ digit-later w l.i more low high, l.invariant.3 ∙ decimal-later w l.i more l.n)
 
-returns-5 : tie.Need-returns-5 invariant-loop decreases-loop
+returns-5 : tie.Need-returns-then-i-eq0 invariant-loop decreases-loop
 returns-5 c =
-    let a = c.before.before.before.before.before.args in
+    let a = c.args in
     let none : length a.word.now ≡ 0 = omega arith in
-    c.no-number5.ensures ∙ sym (no_word a.limit a.word.now none)
+    c.no_number-then-i-eq0.ensures ∙ sym (no_word a.limit a.word.now none)
 
-returns-6 : tie.Need-returns-6 invariant-loop decreases-loop
+returns-6 : tie.Need-returns invariant-loop decreases-loop
 returns-6 c =
-    let l = c.before.before.loop in
-    let a = c.before.before.before.before.args in
+    let l = c.loop-i in
+    let a = c.args in
     let w = a.word.now in
     let end : l.i ≡ length w = omega arith in
-    sym (is-number a.limit w (λ e. c.if5.false (omega (arith, e))) (l.invariant.2 ∙ digital-end w l.i end) l.n
+    sym (is-number a.limit w (λ e. c.if-i-eq0.false (omega (arith, e))) (l.invariant.2 ∙ digital-end w l.i end) l.n
     (l.invariant.3 ∙ decimal-end w l.i end l.n) l.invariant.1)
 
 pub number_spec : {M : Type 1} → statement M

@@ -15,37 +15,37 @@ use Rattle.sheets.proofs.numerals.signed.Statement.{statement}
 use Rattle.sheets.proofs.numerals.signed.Tie as tie
 
 -- there is a byte behind which the number stands
-minus : (c : tie.Then1) → eqb (get_or c.before.before.before.args.word.now 0 0) 45 ≡ true
-minus c = sym c.before.begins-with-minus.ensures ∙ c.if1.true
+minus : (c : tie.Then-begins_with_minus) → eqb (get_or c.args.word.now 0 0) 45 ≡ true
+minus c = sym c.begins_with_minus.ensures ∙ c.if-begins_with_minus.true
 
-long : (c : tie.Then1) → 1 ≤ length c.before.before.before.args.word.now
-long c = some_byte c.before.before.before.args.word.now (minus c)
+long : (c : tie.Then-begins_with_minus) → 1 ≤ length c.args.word.now
+long c = some_byte c.args.word.now (minus c)
 
-sub_number : tie.Need-overflow-sub-number
+sub_number : tie.Need-slice_bounds-number-count
 sub_number c = long c
 
-part_number_start : tie.Need-slice-bounds-number-start
+part_number_start : tie.Need-slice_bounds-number-start
 part_number_start c = long c
 
 opposite_requires : tie.Need-opposite-requires
-opposite_requires c κs = rw c.number.ensures (within 9223372036854775808 _)
+opposite_requires c κs = rw c.number-below.ensures (within 9223372036854775808 _)
 
-returns : tie.Need-returns
+returns : tie.Need-returns-then-begins_with_minus
 returns c =
-    let w = c.before.before.before.before.before.before.args.word.now in
-    signed-minus w c.before.number.result (minus c.before.before.before)
-    (c.before.number.ensures ∙ ap (number_of 9223372036854775808) (behind_first w)) _
+    let w = c.args.word.now in
+    signed-minus w c.number-below.result (minus c.before.before.before)
+    (c.number-below.ensures ∙ ap (number_of 9223372036854775808) (behind_first w)) _
     (to_z-of_z w64 c.opposite.result (search rules) ∙ c.opposite.ensures)
 
-cast_t10 : tie.Need-overflow-cast-t10
+cast_t10 : tie.Need-overflow_cast-result
 cast_t10 c =
-    let small : c.before.number2.result.number ≤ 9223372036854775807 = rw c.before.number2.ensures (within 9223372036854775807 _) in
+    let small : c.number-above.result.number ≤ 9223372036854775807 = rw c.number-above.ensures (within 9223372036854775807 _) in
     record { sfits = omega arith }
 
-returns-2 : tie.Need-returns-2
+returns-2 : tie.Need-returns
 returns-2 c =
-    let w = c.before.before.before.before.before.args.word.now in
-    signed-plain w c.before.number2.result (sym c.before.before.before.begins-with-minus.ensures ∙ c.before.before.if1.false) c.before.number2.ensures
+    let w = c.args.word.now in
+    signed-plain w c.number-above.result (sym c.begins_with_minus.ensures ∙ c.if-begins_with_minus.false) c.number-above.ensures
 
 pub signed_spec : {M : Type 1} → statement M
 signed_spec = tie.close (tie.spec (λ c κs. search rules) sub_number part_number_start (λ c. search rules) (λ c κs. search rules) opposite_requires returns (λ c κs. search rules) cast_t10 returns-2)

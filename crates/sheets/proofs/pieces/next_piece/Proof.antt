@@ -12,33 +12,33 @@ use Rattle.sheets.proofs.pieces.Steps.{after-here, after-later, after_none}
 use Rattle.sheets.proofs.pieces.next_piece.Statement.{statement}
 use Rattle.sheets.proofs.pieces.next_piece.Tie as tie
 
-abbrev invariant-loop : tie.invariant-loop
+abbrev invariant-loop : tie.invariant-loop-i
 invariant-loop bytes at byte i₀ i = (i ≤ length bytes) × (after byte (drop at bytes) ≡ after byte (drop i bytes))
 
-abbrev decreases-loop : tie.decreases-loop
+abbrev decreases-loop : tie.decreases-loop-i
 decreases-loop bytes at byte i₀ i = length bytes - i
 
-loop-holds : tie.Need-loop-init invariant-loop decreases-loop
+loop-holds : tie.Need-loop-i-init invariant-loop decreases-loop
 loop-holds c = (search rules, refl)
 
-returns : tie.Need-returns invariant-loop decreases-loop
+returns : tie.Need-returns-then-bytes-i invariant-loop decreases-loop
 returns c =
-    let l = c.before.before.before.loop in
-    let s = c.before.before.before.before.args.bytes.now in
+    let l = c.loop-i in
+    let s = c.args.bytes.now in
     let more : l.i < length s = omega arith in
-    (sym (l.invariant.1 ∙ after-here s _ l.i more c.if1.true), omega arith)
+    (sym (l.invariant.1 ∙ after-here s _ l.i more c.if-bytes-i.true), omega arith)
 
-loop-again : tie.Need-loop-preserved invariant-loop decreases-loop
+loop-again : tie.Need-loop-i-preserved invariant-loop decreases-loop
 loop-again c =
-    let l = c.before.before.before.loop in
-    let s = c.before.before.before.before.args.bytes.now in
+    let l = c.loop-i in
+    let s = c.args.bytes.now in
     let more : l.i < length s = omega arith in
-    (omega arith, l.invariant.1 ∙ after-later s _ l.i more c.if1.false)
+    (omega arith, l.invariant.1 ∙ after-later s _ l.i more c.if-bytes-i.false)
 
-returns-2 : tie.Need-returns-2 invariant-loop decreases-loop
+returns-2 : tie.Need-returns invariant-loop decreases-loop
 returns-2 c =
-    let l = c.before.loop in
-    let s = c.before.before.args.bytes.now in
+    let l = c.loop-i in
+    let s = c.args.bytes.now in
     let end : l.i ≡ length s = omega arith in
     (sym (l.invariant.1 ∙ after_none s _ l.i end), omega arith)
 

@@ -12,40 +12,40 @@ use Rattle.sheets.proofs.pieces.Steps.{same-short, same-other, same-later, same_
 use Rattle.sheets.proofs.pieces.same.Statement.{statement}
 use Rattle.sheets.proofs.pieces.same.Tie as tie
 
-abbrev invariant-loop : tie.invariant-loop
+abbrev invariant-loop : tie.invariant-loop-i
 invariant-loop a b i₀ i = (i ≤ length a) × (i ≤ length b) × (same a b ≡ same (drop i a) (drop i b))
 
-abbrev decreases-loop : tie.decreases-loop
+abbrev decreases-loop : tie.decreases-loop-i
 decreases-loop a b i₀ i = length a - i
 
-loop-holds : tie.Need-loop-init invariant-loop decreases-loop
+loop-holds : tie.Need-loop-i-init invariant-loop decreases-loop
 loop-holds c = (omega arith, omega arith, refl)
 
-returns : tie.Need-returns invariant-loop decreases-loop
+returns : tie.Need-returns-then-b-i invariant-loop decreases-loop
 returns c =
-    let l = c.before.before.loop in
-    let a = c.before.before.before.args in
+    let l = c.loop-i in
+    let a = c.args in
     let more : l.i < length a.a.now = omega arith in
     search (sym (l.invariant.2 ∙ same-short a.a.now a.b.now l.i more (omega arith)))
 
-returns-2 : tie.Need-returns-2 invariant-loop decreases-loop
+returns-2 : tie.Need-returns-then-a-i invariant-loop decreases-loop
 returns-2 c =
-    let l = c.before.before.before.before.before.loop in
-    let a = c.before.before.before.before.before.before.args in
+    let l = c.loop-i in
+    let a = c.args in
     let more : l.i < length a.a.now = omega arith in
-    sym (l.invariant.2 ∙ same-other a.a.now a.b.now l.i more (omega arith) c.if2.true)
+    sym (l.invariant.2 ∙ same-other a.a.now a.b.now l.i more (omega arith) c.if-a-i.true)
 
-loop-again : tie.Need-loop-preserved invariant-loop decreases-loop
+loop-again : tie.Need-loop-i-preserved invariant-loop decreases-loop
 loop-again c =
-    let l = c.before.before.before.before.before.loop in
-    let a = c.before.before.before.before.before.before.args in
+    let l = c.loop-i in
+    let a = c.args in
     let more : l.i < length a.a.now = omega arith in
-    (omega arith, omega arith, l.invariant.2 ∙ same-later a.a.now a.b.now l.i more (omega arith) c.if2.false)
+    (omega arith, omega arith, l.invariant.2 ∙ same-later a.a.now a.b.now l.i more (omega arith) c.if-a-i.false)
 
-returns-3 : tie.Need-returns-3 invariant-loop decreases-loop
+returns-3 : tie.Need-returns invariant-loop decreases-loop
 returns-3 c =
-    let l = c.before.loop in
-    let a = c.before.before.args in
+    let l = c.loop-i in
+    let a = c.args in
     let end : l.i ≡ length a.a.now = omega arith in
     search (sym (l.invariant.2 ∙ same_end a.a.now a.b.now l.i end (omega arith)))
 

@@ -10,13 +10,13 @@ use Rattle.sheets.proofs.sheet.Lines.{put-long}
 use Rattle.sheets.proofs.sheet.read_line.Statement.{statement}
 use Rattle.sheets.proofs.sheet.read_line.Tie as tie
 
-same_length : tie.Need-same-length
+same_length : tie.Need-shape_of-claims
 same_length c =
-    let a = c.before.before.before.before.before.args in
-    ap length c.before.before.put-claim.ensures ∙ put-long (added a.line.now a.read) a.read.count a.claims.now
+    let a = c.args in
+    ap length c.put_claim.ensures ∙ put-long (added a.line.now a.read) a.read.count a.claims.now
 
 returns : tie.Need-returns
-returns c = (c.with-line.ensures, c.before.before.put-claim.ensures)
+returns c = (c.with_line.ensures, c.put_claim.ensures)
 
 pub read_line_spec : {M : Type 1} → statement M
 read_line_spec = tie.close (tie.spec (λ c κs. search rules) (λ c κs. search rules) same_length returns)

@@ -12,25 +12,25 @@ use Rattle.algebra.proofs.Filling.{length_over}
 use Rattle.sheets.proofs.sheet.read_sheet.Statement.{statement}
 use Rattle.sheets.proofs.sheet.read_sheet.Tie as tie
 
-returns : tie.Need-returns
+returns : tie.Need-returns-then-bytes-gt65536
 returns c =
-    let a = c.before.before.before.args in
+    let a = c.args in
     let s = a.bytes.now in
     let long : 65536 < length s = omega arith in
     (c.nothing_read.ensures ∙ long-read s long, long-laid s long a.claims.now)
 
-same_length : tie.Need-same-length
+same_length : tie.Need-shape_of-claims
 unfolding laid
-same_length c = ap length c.before.before.read-lines.ensures.1 ∙ length_over _ _ _
+same_length c = ap length c.read_lines-read.ensures.1 ∙ length_over _ _ _
 
-returns-2 : tie.Need-returns-2
+returns-2 : tie.Need-returns
 returns-2 c =
-    let a = c.before.before.before.before.before.before.before.args in
+    let a = c.args in
     let s = a.bytes.now in
     let short : length s ≤ 65536 = omega arith in
-    let lines : c.before.before.before.before.count.result + 1 ≡ lines_of s = ap (λ n. n + 1) c.before.before.before.before.count.ensures.0 in
-    let read = c.before.before.read-lines in (
-      search (c.ended.ensures ∙ ap (ended (c.before.before.before.before.count.result + 1)) read.ensures.0 ∙ ap (λ n. ended n (read_to n s)) lines
+    let lines : c.count-lines.result + 1 ≡ lines_of s = ap (λ n. n + 1) c.count-lines.ensures.0 in
+    let read = c.read_lines-read in (
+      search (c.ended.ensures ∙ ap (ended (c.count-lines.result + 1)) read.ensures.0 ∙ ap (λ n. ended n (read_to n s)) lines
           ∙ short-read s short),
       read.ensures.1 ∙ ap (λ n. laid (claims_to n s) a.claims.now) lines ∙ ap (λ t. laid t a.claims.now) (short-claims s short),
     )

@@ -11,9 +11,9 @@ use Rattle.sheets.proofs.words.word_number.Tie as tie
 
 returns : tie.Need-returns
 returns c =
-    let a = c.before.before.before.before.before.args in
-    let start = c.before.before.before.piece-start in
-    let end = c.before.before.piece-end in
+    let a = c.args in
+    let start = c.piece_start-start in
+    let end = c.piece_end-end in
     c.number.ensures ∙ ap (number_of 18446744073709551615) (piece-part 32 a.line.now a.k start.result end.result start.ensures.0 end.ensures.0)
 
 pub word_number_spec : {M : Type 1} → statement M

@@ -6,9 +6,9 @@ use borrow.Author.Rules.{rules}
 use Rattle.slots.proofs.arrays.spread_value.Statement.{statement}
 use Rattle.slots.proofs.arrays.spread_value.Tie as tie
 
-returns-2 : tie.Need-returns-2
+returns-2 : tie.Need-returns-in-None
 unfolding of_bits
-returns-2 c = ap spread_value (sym c.enum_told.given.1)
+returns-2 c = ap spread_value (sym c.enum_told-1.given.1)
 
 pub spread_value_spec : {M : Type 1} → statement M
 spread_value_spec = tie.close (tie.spec (λ c. search rules) (λ c. search rules) (λ c. search rules) returns-2)

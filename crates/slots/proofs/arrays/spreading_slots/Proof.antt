@@ -8,9 +8,9 @@ use Rattle.slots.proofs.arrays.spreading_slots.Tie as tie
 
 returns : tie.Need-returns
 returns c =
-    let t = c.before.before.args.spreading in
+    let t = c.args.spreading in
     let last : ℕ → List ℕ = λ (x : ℕ). t.q.high ∷ t.q.low ∷ t.vbeta ∷ t.freedom ∷ t.hundredths ∷ x ∷ [] in
-    search (ap last c.has-spread.ensures)
+    search (ap last c.has_spread.ensures)
 
 pub spreading_slots_spec : {M : Type 1} → statement M
 spreading_slots_spec = tie.close (tie.spec (λ c κs. search rules) returns)

@@ -9,8 +9,8 @@ unfolding table_call
 returns c =
     let laid = c.before.before.before in
     let tested = laid.before.before in
-    let verdict = tested.with_room.ensures in
-    (search (rw verdict at c.told.ensures), search (rw verdict at laid.lay-entries.ensures))
+    let verdict = tested.with_room-verdict.ensures in
+    (search (rw verdict at c.told.ensures), search (rw verdict at laid.lay_entries.ensures))
 
 pub lay_table_spec : {M : Type 1} → statement M
 lay_table_spec = tie.close (tie.spec (λ c κs. tt) (λ c κs. tt) (λ c κs. tt) (λ c. search rules) returns)

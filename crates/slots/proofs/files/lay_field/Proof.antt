@@ -5,17 +5,17 @@ use Rattle.slots.specs.Answers.{field_call}
 use Rattle.slots.proofs.files.lay_field.Statement.{statement}
 use Rattle.slots.proofs.files.lay_field.Tie as tie
 
-returns : tie.Need-returns
+returns : tie.Need-returns-in-Body
 unfolding field_call
 returns c =
     let laid = c.before.before.before in
     let tested = laid.before.before.before in
-    let verdict = tested.with_room.ensures in
-    rw tested.before.before.found.given.1 (search (rw verdict at c.told.ensures), search (rw verdict at laid.lay.ensures))
+    let verdict = tested.with_room-verdict.ensures in
+    rw tested.found-1.given.1 (search (rw verdict at c.told.ensures), search (rw verdict at laid.lay.ensures))
 
-returns-2 : tie.Need-returns-2
+returns-2 : tie.Need-returns-in-Unfit
 unfolding field_call
-returns-2 c = rw c.before.before.found2.given.1 (c.told2.ensures, refl)
+returns-2 c = rw c.found-in-Unfit-1.given.1 (c.told-in-Unfit.ensures, refl)
 
 pub lay_field_spec : {M : Type 1} → statement M
 lay_field_spec =

@@ -7,13 +7,13 @@ use Rattle.slots.proofs.files.lay_read.Statement.{statement}
 use Rattle.slots.proofs.files.lay_read.Tie as tie
 
 -- once every kind of slot was asked for
-module _ (c : tie.After-with-room2) where
+module _ (c : tie.After-with_room-verdict) where
   abbrev s : tie.Start
   s = c.before.before.before
 
-  verdict : c.with-room2.result ≡ read_call s.args.read s.args.signed.now s.args.answer.now
+  verdict : c.with_room-verdict.result ≡ read_call s.args.read s.args.signed.now s.args.answer.now
   unfolding read_call
-  verdict = search (rw c.before.with_room.ensures at c.with-room2.ensures)
+  verdict = search (rw c.with_room-signed_tested.ensures at c.with_room-verdict.ensures)
 
 returns : tie.Need-returns
 returns c =
@@ -23,9 +23,9 @@ returns c =
     let known = signed.before.before.before in
     let v = verdict known.before in
     let x = (s known.before).args.read.sum in
-    let back = read_back x known.struct_told.given.1.1.1.1.1.0.1 in (
+    let back = read_back x known.struct_told-1.given.1.1.1.1.1.0.1 in (
       search (rw v at c.told.ensures),
-      (search (rw (v, back) at signed.lay-signed.ensures), search (rw (v, slots.read-slots.ensures) at answer.lay.ensures)),
+      (search (rw (v, back) at signed.lay_signed.ensures), search (rw (v, slots.read_slots-slots.ensures) at answer.lay.ensures)),
     )
 
 pub lay_read_spec : {M : Type 1} → statement M

@@ -8,7 +8,7 @@ returns : tie.Need-returns
 unfolding written_call
 returns c =
     let laid = c.before.before.before in
-    let verdict = laid.before.before.before.with_room.ensures in
+    let verdict = laid.with_room-verdict.ensures in
     (search (rw verdict at c.told.ensures), search (rw verdict at laid.lay.ensures))
 
 pub lay_written_spec : {M : Type 1} → statement M

@@ -9,8 +9,8 @@ unfolding group_set_call
 returns c =
     let laid = c.before.before.before in
     let slots = laid.before.before.before in
-    let verdict = slots.before.with_room.ensures in
-    (search (rw verdict at c.told.ensures), search (rw (verdict, slots.group-slots.ensures) at laid.lay.ensures))
+    let verdict = slots.with_room-verdict.ensures in
+    (search (rw verdict at c.told.ensures), search (rw (verdict, slots.group_slots-slots.ensures) at laid.lay.ensures))
 
 pub lay_group_set_spec : {M : Type 1} → statement M
 lay_group_set_spec =

@@ -6,13 +6,13 @@ use Rattle.slots.proofs.jobs.lay_solved.Statement.{statement}
 use Rattle.slots.proofs.jobs.lay_solved.Tie as tie
 
 -- once every kind of slot was asked for
-module _ (c : tie.After-with-room2) where
+module _ (c : tie.After-with_room-verdict) where
   abbrev s : tie.Start
   s = c.before.before.before.before.before
 
-  verdict : c.with-room2.result ≡ solved_call s.args.solved s.args.answer.now s.args.real.now
+  verdict : c.with_room-verdict.result ≡ solved_call s.args.solved s.args.answer.now s.args.real.now
   unfolding solved_call
-  verdict = search (rw c.before.with_room.ensures at c.with-room2.ensures)
+  verdict = search (rw c.with_room-answer_tested.ensures at c.with_room-verdict.ensures)
 
 returns : tie.Need-returns
 returns c =
@@ -22,7 +22,7 @@ returns c =
     let slots = answer.before.before.before in
     let v = verdict slots.before in (
       search (rw v at c.told.ensures),
-      (search (rw (v, slots.solved-slots.ensures) at answer.lay.ensures), search (rw (v, spread.spread-value.ensures) at real.lay-real.ensures)),
+      (search (rw (v, slots.solved_slots-slots.ensures) at answer.lay.ensures), search (rw (v, spread.spread_value.ensures) at real.lay_real.ensures)),
     )
 
 pub lay_solved_spec : {M : Type 1} → statement M

@@ -7,13 +7,13 @@ use Rattle.slots.proofs.jobs.lay_value.Statement.{statement}
 use Rattle.slots.proofs.jobs.lay_value.Tie as tie
 
 -- once every kind of slot was asked for
-module _ (c : tie.After-with-room3) where
+module _ (c : tie.After-with_room-verdict) where
   abbrev s : tie.Start
   s = c.before.before.before.before.before.before
 
-  verdict : c.with-room3.result ≡ value_call s.args.found s.args.signed.now s.args.answer.now s.args.real.now
+  verdict : c.with_room-verdict.result ≡ value_call s.args.found s.args.signed.now s.args.answer.now s.args.real.now
   unfolding value_call
-  verdict = search (rw (c.before.with-room2.ensures, c.before.before.with_room.ensures) at c.with-room3.ensures)
+  verdict = search (rw (c.with_room-answer_tested.ensures, c.with_room-signed_tested.ensures) at c.with_room-verdict.ensures)
 
 returns : tie.Need-returns
 returns c =
@@ -22,12 +22,12 @@ returns c =
     let signed = answer.before.before.before.before in
     let known = signed.before.before.before in
     let v = verdict known.before in
-    let k = known.struct_told.given in
+    let k = known.struct_told-1.given in
     let x = (s known.before).args.found.value in (
       search (rw v at c.told.ensures),
       (
-        search (rw (v, read_back x.numerator k.0.1, read_back x.hundredths k.1.1.0.1) at signed.lay-signed.ensures),
-        (search (rw v at answer.lay.ensures), search (rw v at real.lay-real.ensures)),
+        search (rw (v, read_back x.numerator k.0.1, read_back x.hundredths k.1.1.0.1) at signed.lay_signed.ensures),
+        (search (rw v at answer.lay.ensures), search (rw v at real.lay_real.ensures)),
       ),
     )
 

@@ -12,35 +12,35 @@ use Rattle.slots.proofs.laying.Laying.{none, all, full}
 use Rattle.slots.proofs.laying.lay_signed.Statement.{statement}
 use Rattle.slots.proofs.laying.lay_signed.Tie as tie
 
-abbrev invariant-loop : tie.invariant-loop
+abbrev invariant-loop : tie.invariant-loop-i
 invariant-loop slots lent₀ i₀ i-end lent i = (i ≤ length slots) × (length lent ≡ length lent₀) × (lent ≡ over i (λ (k : ℕ). get_or slots k (pos 0)) lent₀)
 
-abbrev decreases-loop : tie.decreases-loop
+abbrev decreases-loop : tie.decreases-loop-i
 decreases-loop slots lent₀ i₀ i-end lent i = length slots - i
 
-returns : tie.Need-returns invariant-loop decreases-loop
+returns : tie.Need-returns-in-Refused invariant-loop decreases-loop
 returns c =
-    let a = c.before.before.args in
-    none (pos 0) a.verdict a.slots.now a.lent.now _ _ c.enum_told.given.1
+    let a = c.args in
+    none (pos 0) a.verdict a.slots.now a.lent.now _ _ c.enum_told-1.given.1
 
-loop-holds : tie.Need-loop-init invariant-loop decreases-loop
+loop-holds : tie.Need-loop-i-init invariant-loop decreases-loop
 loop-holds c = (search rules, search rules, over_none _ _)
 
-returns-2 : tie.Need-returns-2 invariant-loop decreases-loop
+returns-2 : tie.Need-returns-then-lent-i invariant-loop decreases-loop
 returns-2 c =
-    let l = c.before.before.loop in
-    let a = c.before.before.before.before.before.args in
-    full (pos 0) a.verdict a.slots.now a.lent.now c.before.before.before.enum-told2.given.1 l.invariant.2 (omega arith) l.invariant.0
+    let l = c.loop-i in
+    let a = c.args in
+    full (pos 0) a.verdict a.slots.now a.lent.now c.enum_told-in_default-1.given.1 l.invariant.2 (omega arith) l.invariant.0
 
-loop-again : tie.Need-loop-preserved invariant-loop decreases-loop
+loop-again : tie.Need-loop-i-preserved invariant-loop decreases-loop
 loop-again c =
-    let l = c.before.before.before.loop in
-    (search rules, search rules, over-step l.i _ _ l.invariant.2 (read_back _ c.lent.given) (omega arith))
+    let l = c.loop-i in
+    (search rules, search rules, over-step l.i _ _ l.invariant.2 (read_back _ c.lent-1.given) (omega arith))
 
-returns-3 : tie.Need-returns-3 invariant-loop decreases-loop
+returns-3 : tie.Need-returns invariant-loop decreases-loop
 returns-3 c =
-    let a = c.before.before.before.before.args in
-    all (pos 0) a.verdict a.slots.now a.lent.now c.before.before.enum-told2.given.1 c.before.loop.invariant.2 (omega arith)
+    let a = c.args in
+    all (pos 0) a.verdict a.slots.now a.lent.now c.enum_told-in_default-1.given.1 c.loop-i.invariant.2 (omega arith)
 
 pub lay_signed_spec : {M : Type 1} → statement M
 lay_signed_spec =

@@ -4,8 +4,8 @@ use borrow.Author.Rules.{rules}
 use Rattle.slots.proofs.pools.told_at.Statement.{statement}
 use Rattle.slots.proofs.pools.told_at.Tie as tie
 
-returns-2 : tie.Need-returns-2
-returns-2 c = rw c.before.verdict.given.1 (omega arith)
+returns-2 : tie.Need-returns-in-Refused
+returns-2 c = rw c.verdict-1.given.1 (omega arith)
 
 pub told_at_spec : {M : Type 1} → statement M
 told_at_spec =

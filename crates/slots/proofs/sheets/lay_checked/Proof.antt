@@ -5,21 +5,21 @@ use Rattle.slots.specs.Sheets.{checked_call}
 use Rattle.slots.proofs.sheets.lay_checked.Statement.{statement}
 use Rattle.slots.proofs.sheets.lay_checked.Tie as tie
 
-returns : tie.Need-returns
+returns : tie.Need-returns-in-Agrees
 unfolding checked_call
 returns c =
     let found = c.before.before in
-    rw found.before.before.enum_told.given.1 (search found.lay-found.ensures.0, search found.lay-found.ensures.1)
+    rw found.enum_told-1.given.1 (search found.lay_found.ensures.0, search found.lay_found.ensures.1)
 
-returns-2 : tie.Need-returns-2
+returns-2 : tie.Need-returns-in-Differs
 unfolding checked_call
 returns-2 c =
     let found = c.before.before in
-    rw found.before.before.before.checked.given.1 (search found.lay-found2.ensures.0, search found.lay-found2.ensures.1)
+    rw found.checked-1.given.1 (search found.lay_found-in-Differs.ensures.0, search found.lay_found-in-Differs.ensures.1)
 
-returns-3 : tie.Need-returns-3
+returns-3 : tie.Need-returns-in-Unchecked
 unfolding checked_call
-returns-3 c = rw c.before.before.checked2.given.1 (search c.told.ensures, refl)
+returns-3 c = rw c.checked-in-Unchecked-1.given.1 (search c.told.ensures, refl)
 
 pub lay_checked_spec : {M : Type 1} → statement M
 lay_checked_spec =

@@ -6,7 +6,7 @@ use Rattle.slots.proofs.sheets.lay_found.Tie as tie
 returns : tie.Need-returns
 returns c =
     let laid = c.before.before.before in
-    let verdict = laid.before.before.before.with_room.ensures in
+    let verdict = laid.with_room-verdict.ensures in
     (search (rw verdict at c.told.ensures), search (rw verdict at laid.lay.ensures))
 
 pub lay_found_spec : {M : Type 1} → statement M

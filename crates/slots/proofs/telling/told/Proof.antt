@@ -6,11 +6,11 @@ use Rattle.slots.specs.Told.{told}
 use Rattle.slots.proofs.telling.told.Statement.{statement}
 use Rattle.slots.proofs.telling.told.Tie as tie
 
-returns : tie.Need-returns
-returns c = ap told (sym c.enum_told.given.1)
+returns : tie.Need-returns-in-Accepted
+returns c = ap told (sym c.enum_told-1.given.1)
 
-returns-2 : tie.Need-returns-2
-returns-2 c = rw c.before.verdict.given.1 (omega arith)
+returns-2 : tie.Need-returns-in-Refused
+returns-2 c = rw c.verdict-1.given.1 (omega arith)
 
 pub told_spec : {M : Type 1} → statement M
 told_spec = tie.close (tie.spec (λ c. search rules) (λ c. search rules) (λ c. search rules) (λ c. search rules) (λ c. search rules) returns returns-2)

@@ -19,15 +19,15 @@ use Rattle.laws.specs.Limits.{total_limit}
 use Rattle.weighing.proofs.adding.add_reading.Tie as tie
 
 -- the reading, and what is added for the right
-module _ (c : tie.After-y) where
+module _ (c : tie.After-y-1) where
   abbrev start : tie.Start
   start = c.before.before.before.before
 
   fits : SFits w32 (reading start.args.readings.now start.args.k)
-  fits = record { sfits = c.y.given }
+  fits = record { sfits = c.y-1.given }
 
   abbrev y : Num
-  y = widened (reading start.args.readings.now start.args.k) reading_limit fits start.pre.0.2
+  y = widened (reading start.args.readings.now start.args.k) reading_limit fits start.requires.0.2
 
   abbrev zero : Num
   zero = unsigned 0 0 (omega arith) (lit< tt)
@@ -36,21 +36,21 @@ module _ (c : tie.After-y) where
   less = minus zero y (lit< tt)
 
 -- once the left word is added
-module _ (c : tie.After-totals) where
-  abbrev read : tie.After-y
+module _ (c : tie.After-totals-1) where
+  abbrev read : tie.After-y-1
   read = c.before.before.before
 
   abbrev s : tie.Start
   s = start read
 
-  left-added : c.before.add-to.new.1.1.0 ≡ added (get_or s.args.words.now (2 * s.args.k) 0)
+  left-added : c.add_to.new.totals ≡ added (get_or s.args.words.now (2 * s.args.k) 0)
       (reading s.args.readings.now s.args.k) s.args.totals.now
-  left-added = rw (y read).reads at c.before.add-to.ensures
+  left-added = rw (y read).reads at c.add_to.ensures
 
-add_to_requires : tie.Need-add-to-requires
+add_to_requires : tie.Need-add_to-requires
 add_to_requires c κs = let t = c.before in (search (start t).requires.1.0, rw (y t).reads (y t).small)
 
-add_to_requires_2 : tie.Need-add-to-requires-2
+add_to_requires_2 : tie.Need-add_to-requires-2
 add_to_requires_2 c κs = let t = c.before in (
   subst (λ (l : List ℤ). Room l (get_or (s t).args.words.now (2 * (s t).args.k + 1) 0) (total_limit + reading_limit)) (sym (left-added t))
       (added-room _ _ (s t).requires.0.2 _ _ total_limit (s t).requires.1.1),
@@ -60,7 +60,7 @@ add_to_requires_2 c κs = let t = c.before in (
 returns : tie.Need-returns
 returns c =
     let t = c.before.before.before in
-    c.before.add-to2.ensures ∙ ap₂ (added (get_or (s t).args.words.now (2 * (s t).args.k + 1) 0)) (less (read t)).reads (left-added t)
+    c.add_to-2.ensures ∙ ap₂ (added (get_or (s t).args.words.now (2 * (s t).args.k + 1) 0)) (less (read t)).reads (left-added t)
 
 pub add_reading_spec : {M : Type 1} → statement M
 add_reading_spec =

@@ -13,25 +13,25 @@ use Rattle.weighing.proofs.SquareSums.{squares, squares-none, squares-more}
 use Rattle.weighing.proofs.adding.squared_totals.Statement.{statement}
 use Rattle.weighing.proofs.adding.squared_totals.Tie as tie
 
-abbrev invariant-loop : tie.invariant-loop
+abbrev invariant-loop : tie.invariant-loop-i
 invariant-loop totals v sum₀ i₀ sum i = (i ≤ v) × (sum ≡ wide (squares totals i))
 
-abbrev decreases-loop : tie.decreases-loop
+abbrev decreases-loop : tie.decreases-loop-i
 decreases-loop totals v sum₀ i₀ sum i = v - i
 
 -- what a turn reads
-module _ (c : tie.After-total invariant-loop decreases-loop) where
+module _ (c : tie.After-total-1 invariant-loop decreases-loop) where
   abbrev element : ℤ
-  element = get_or c.before.before.before.args.totals.now c.before.before.loop.i (pos 0)
+  element = get_or c.args.totals.now c.loop-i.i (pos 0)
 
   fits : SFits w64 element
-  fits = record { sfits = c.total.given }
+  fits = record { sfits = c.total-1.given }
 
-loop-again : tie.Need-loop-preserved invariant-loop decreases-loop
+loop-again : tie.Need-loop-i-preserved invariant-loop decreases-loop
 loop-again c =
     let t = c.before.before.before.before in
-    let sized : c.before.size.result ≡ nat_abs (element c.before.before) = c.before.size.ensures ∙ ap nat_abs (to_z-of_z (fits c.before.before)) in
-    (omega arith, squares-more t.before.args.totals.now t.loop.i t.loop.invariant.1 sized c.add-square.ensures)
+    let sized : c.size.result ≡ nat_abs (element c.before.before) = c.size.ensures ∙ ap nat_abs (to_z-of_z (fits c.before.before)) in
+    (omega arith, squares-more t.args.totals.now t.loop-i.i t.loop-i.invariant.1 sized c.add_square-sum.ensures)
 
 pub squared_totals_spec : {M : Type 1} → statement M
 squared_totals_spec =
@@ -47,4 +47,4 @@ squared_totals_spec =
     (λ c. omega arith)
     (λ c. omega arith)
     loop-again
-    (λ c. let e : c.before.loop.i ≡ c.before.before.args.v = omega arith in cc))
+    (λ c. let e : c.loop-i.i ≡ c.args.v = omega arith in cc))

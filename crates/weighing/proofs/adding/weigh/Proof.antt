@@ -42,26 +42,26 @@ module _ (s : tie.Start) where
   squared = squared_totals_in words ys (blocks s.args.head) (objects s.args.head)
 
 -- past the tests
-module _ (c : tie.Else1) where
+module _ (c : tie.Else-is_refused) where
   abbrev start : tie.Start
   start = c.before.before.before.before
 
   passed : verdict start ≡ accepted
-  passed = sym c.before.before.weighing-refusal.ensures ∙ accepting _ (sym c.before.is-refused.ensures ∙ c.if1.false)
+  passed = sym c.weighing_refusal-tested.ensures ∙ accepting _ (sym c.is_refused.ensures ∙ c.if-is_refused.false)
 
   stands : Weighable start.args.head (words start) (ys start) (length (room start))
   stands = weighable _ _ _ _ passed
 
 -- once the totals are filled
 module _ (c : tie.After-fill) where
-  abbrev told : tie.Else1
+  abbrev told : tie.Else-is_refused
   told = c.before.before.before.before
 
-  counted : c.before.before.before.objects.result ≡ objects (start told).args.head
-  counted = c.before.before.before.objects.ensures ∙ within-sizes _ _ (stands told).fit
+  counted : c.objects-v.result ≡ objects (start told).args.head
+  counted = c.objects-v.ensures ∙ within-sizes _ _ (stands told).fit
 
   abbrev totals : List ℤ
-  totals = c.fill.new.1.1.1.1.0
+  totals = c.fill.new.totals
 
   filled : totals ≡ over (objects (start told).args.head) (total_in (words (start told)) (ys (start told)) (blocks (start told).args.head))
       (room (start told))
@@ -76,30 +76,30 @@ module _ (c : tie.After-fill) where
     length_over (objects (start told).args.head) (total_in (words (start told)) (ys (start told)) (blocks (start told).args.head)) (room (start told)),
   )
 
-returns : tie.Need-returns
+returns : tie.Need-returns-then-is_refused
 returns c =
     let s = c.before.before.before.before.before in
-    let r = sym c.before.before.is-refused.ensures ∙ c.before.if1.true in
-    let e = sym c.before.before.before.weighing-refusal.ensures in
-    (c.no-sum.ensures ∙ square_refused (verdict s) (squared s) _ r e, sym (given_no (verdict s) _ _ _ _ (e ∙ refusing _ r)))
+    let r = sym c.is_refused.ensures ∙ c.if-is_refused.true in
+    let e = sym c.weighing_refusal-tested.ensures in
+    (c.no_sum.ensures ∙ square_refused (verdict s) (squared s) _ r e, sym (given_no (verdict s) _ _ _ _ (e ∙ refusing _ r)))
 
 fill_requires : tie.Need-fill-requires
 fill_requires c κs =
     let t = stands c.before.before.before in
-    let v = c.before.before.objects.ensures ∙ within-sizes _ _ t.fit in
+    let v = c.objects-v.ensures ∙ within-sizes _ _ t.fit in
     (t.weighed, (rw v t.within, rw v t.roomy))
 
-squared_totals_requires : tie.Need-squared-totals-requires
+squared_totals_requires : tie.Need-squared_totals-sum-requires
 squared_totals_requires c κs =
-    let f = c.before.before in
+    let f = c.before in
     rw (counted f) (long f)
 
-returns-2 : tie.Need-returns-2
+returns-2 : tie.Need-returns
 returns-2 c =
-    let f = c.before.before.before in
+    let f = c.before.before in
     let s = start (told f) in
     let e = passed (told f) in
-    let summed : c.squared-totals.result ≡ wide (squares (totals f) (objects s.args.head)) = c.squared-totals.ensures
+    let summed : c.squared_totals-sum.result ≡ wide (squares (totals f) (objects s.args.head)) = c.squared_totals-sum.ensures
     ∙ ap (λ (v : ℕ). wide (squares (totals f) v)) (counted f) in (
       square_accepted (verdict s) (squared s) _ e (summed ∙ ap wide (filled_squares _ _ _ _ _ _ (stands (told f)).roomy (filled f))),
       filled f

@@ -7,15 +7,15 @@ use Rattle.weighing.proofs.Slices.{design-clean}
 use Rattle.weighing.proofs.readings.blocks_refusal.Statement.{statement}
 use Rattle.weighing.proofs.readings.blocks_refusal.Tie as tie
 
-returns : tie.Need-returns
+returns : tie.Need-returns-then-is_refused
 returns c =
-    let r = refusing _ (sym c.before.is-refused.ensures ∙ c.if1.true) in
-    rw (sym c.before.before.slices-refusal.ensures ∙ r) r
+    let r = refusing _ (sym c.is_refused.ensures ∙ c.if-is_refused.true) in
+    rw (sym c.slices_refusal-sliced.ensures ∙ r) r
 
-returns-2 : tie.Need-returns-2
+returns-2 : tie.Need-returns
 returns-2 c =
-    let e = sym c.before.before.before.slices-refusal.ensures ∙ accepting _ (sym c.before.before.is-refused.ensures ∙ c.before.if1.false) in
-    c.pairs-refusal.ensures ∙ design-clean _ _ _ e ∙ sym (goes_on _ e)
+    let e = sym c.slices_refusal-sliced.ensures ∙ accepting _ (sym c.is_refused.ensures ∙ c.if-is_refused.false) in
+    c.pairs_refusal.ensures ∙ design-clean _ _ _ e ∙ sym (goes_on _ e)
 
 pub blocks_refusal_spec : {M : Type 1} → statement M
 blocks_refusal_spec =

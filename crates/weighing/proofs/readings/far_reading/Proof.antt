@@ -17,41 +17,41 @@ use Rattle.meaning.specs.Refusals.{far_reading, reading_limit}
 use Rattle.weighing.proofs.readings.far_reading.Statement.{statement}
 use Rattle.weighing.proofs.readings.far_reading.Tie as tie
 
-abbrev invariant-loop : tie.invariant-loop
+abbrev invariant-loop : tie.invariant-loop-k
 invariant-loop readings k₀ k = (k ≤ length readings) × (far_reading readings ≡ first_from (λ j. ltb reading_limit (nat_abs (reading readings j))) k (length readings - k))
 
-abbrev decreases-loop : tie.decreases-loop
+abbrev decreases-loop : tie.decreases-loop-k
 decreases-loop readings k₀ k = length readings - k
 
-loop-holds : tie.Need-loop-init invariant-loop decreases-loop
+loop-holds : tie.Need-loop-k-init invariant-loop decreases-loop
 unfolding far_reading
 loop-holds c = (omega arith, rw sub-zero)
 
 -- the test of a turn is the definition's
-module _ (c : tie.After-is-far invariant-loop decreases-loop) where
+module _ (c : tie.After-is_far invariant-loop decreases-loop) where
   abbrev element : ℤ
-  element = reading c.before.before.before.before.args.readings.now c.before.before.before.loop.k
+  element = reading c.args.readings.now c.loop-k.k
 
   fits : SFits w32 element
-  fits = record { sfits = c.before.y.given }
+  fits = record { sfits = c.y-1.given }
 
-  far : ltb reading_limit (nat_abs element) ≡ c.is-far.result
-  far = sym (rw (to_z-of_z fits) at c.is-far.ensures)
+  far : ltb reading_limit (nat_abs element) ≡ c.is_far.result
+  far = sym (rw (to_z-of_z fits) at c.is_far.ensures)
 
-returns : tie.Need-returns invariant-loop decreases-loop
+returns : tie.Need-returns-then-is_far invariant-loop decreases-loop
 returns c =
-    let l = c.before.before.before.before.loop in
-    sym (l.invariant.1 ∙ first-here _ _ l.k c.before.before.before.loop-test.true (far c.before ∙ c.if1.true))
+    let l = c.loop-k in
+    sym (l.invariant.1 ∙ first-here _ _ l.k c.loop-k-test.true (far c.before ∙ c.if-is_far.true))
 
-loop-again : tie.Need-loop-preserved invariant-loop decreases-loop
+loop-again : tie.Need-loop-k-preserved invariant-loop decreases-loop
 loop-again c =
-    let l = c.before.before.before.before.loop in
-    (omega arith, l.invariant.1 ∙ first_on _ _ l.k c.before.before.before.loop-test.true (far c.before ∙ c.if1.false))
+    let l = c.loop-k in
+    (omega arith, l.invariant.1 ∙ first_on _ _ l.k c.loop-k-test.true (far c.before ∙ c.if-is_far.false))
 
-returns-2 : tie.Need-returns-2 invariant-loop decreases-loop
+returns-2 : tie.Need-returns invariant-loop decreases-loop
 returns-2 c =
-    let l = c.before.loop in
-    let end : l.k ≡ length c.before.before.args.readings.now = omega arith in
+    let l = c.loop-k in
+    let end : l.k ≡ length c.args.readings.now = omega arith in
     end ∙ sym (l.invariant.1 ∙ first-end _ _ l.k end)
 
 pub far_reading_spec : {M : Type 1} → statement M

@@ -9,16 +9,16 @@ use Rattle.weighing.proofs.readings.is_far.Statement.{statement}
 use Rattle.meaning.specs.Refusals.{reading_limit}
 use Rattle.weighing.proofs.readings.is_far.Tie as tie
 
-returns : tie.Need-returns
-returns c = sym (lt-ltb _ _ (too_low c.before.args.y (reading_limit - 1) (search (rw (to_z-of_z c.before.ranges.y) at c.if1.true))))
+returns : tie.Need-returns-then-y
+returns c = sym (lt-ltb _ _ (too_low c.args.y (reading_limit - 1) (search (rw (to_z-of_z c.ranges.y) at c.if-y.true))))
 
-returns-2 : tie.Need-returns-2
-returns-2 c = sym (lt-ltb _ _ (too_high c.before.before.args.y reading_limit (search (rw (to_z-of_z c.before.before.ranges.y) at c.if2.true))))
+returns-2 : tie.Need-returns-then-y-gt-READING_LIMIT
+returns-2 c = sym (lt-ltb _ _ (too_high c.args.y reading_limit (search (rw (to_z-of_z c.ranges.y) at c.if-y-gt-READING_LIMIT.true))))
 
-returns-3 : tie.Need-returns-3
+returns-3 : tie.Need-returns
 returns-3 c =
-    let read = to_z-of_z c.before.before.ranges.y in
-    sym (le-ltb _ _ (between c.before.before.args.y (reading_limit - 1) (rw read at c.before.if1.false) (search (rw read at c.if2.false))))
+    let read = to_z-of_z c.ranges.y in
+    sym (le-ltb _ _ (between c.args.y (reading_limit - 1) (rw read at c.if-y.false) (search (rw read at c.if-y-gt-READING_LIMIT.false))))
 
 pub is_far_spec : {M : Type 1} → statement M
 is_far_spec = tie.close (tie.spec (λ c. search rules) returns returns-2 returns-3)

@@ -11,24 +11,24 @@ use Rattle.weighing.proofs.readings.slices_refusal.Statement.{statement}
 use Rattle.weighing.proofs.readings.slices_refusal.Tie as tie
 
 -- past the first test the sizes hold
-passed : (c : tie.Else1) → sized c.before.before.before.args.head ≡ true
-passed c = sym c.before.sized.ensures ∙ not-false _ c.if1.false
+passed : (c : tie.Else-not-sized) → sized c.args.head ≡ true
+passed c = sym c.sized.ensures ∙ not-false _ c.if-not-sized.false-raw
 
-returns : tie.Need-returns
+returns : tie.Need-returns-then-not-sized
 unfolding slices
-returns c = rw (sym c.before.sized.ensures ∙ not-true _ c.if1.true) (search rules)
+returns c = rw (sym c.sized.ensures ∙ not-true _ c.if-not-sized.true-raw) (search rules)
 
-returns-2 : tie.Need-returns-2
+returns-2 : tie.Need-returns-then-blocks-p
 unfolding slices
-returns-2 c = rw (passed c.before, ne_eqb _ _ c.if2.true)
+returns-2 c = rw (passed c.before, ne_eqb _ _ c.if-blocks-p.true)
 
-returns-3 : tie.Need-returns-3
+returns-3 : tie.Need-returns-then-readings-m
 unfolding slices
-returns-3 c = rw (passed c.before.before, eq-eqb _ _ c.before.if2.false, ne_eqb _ _ c.if3.true)
+returns-3 c = rw (passed c.before.before, eq-eqb _ _ c.if-blocks-p.false, ne_eqb _ _ c.if-readings-m.true)
 
-returns-4 : tie.Need-returns-4
+returns-4 : tie.Need-returns
 unfolding slices
-returns-4 c = rw (passed c.before.before, eq-eqb _ _ c.before.if2.false, eq-eqb _ _ c.if3.false)
+returns-4 c = rw (passed c.before.before, eq-eqb _ _ c.if-blocks-p.false, eq-eqb _ _ c.if-readings-m.false)
 
 pub slices_refusal_spec : {M : Type 1} → statement M
 slices_refusal_spec =

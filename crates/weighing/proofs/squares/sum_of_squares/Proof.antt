@@ -18,51 +18,51 @@ use Rattle.weighing.proofs.squares.sum_of_squares.Statement.{statement}
 use Rattle.weighing.proofs.squares.sum_of_squares.Tie as tie
 
 -- past the first test the sizes hold
-passed : (c : tie.Else1) → sized c.before.before.args.head ≡ true
-passed c = sym c.before.sized.ensures ∙ not-false _ c.if1.false
+passed : (c : tie.Else-not-sized) → sized c.args.head ≡ true
+passed c = sym c.sized.ensures ∙ not-false _ c.if-not-sized.false-raw
 
-abbrev start : tie.Else2 → tie.Start
+abbrev start : tie.Else-readings-m → tie.Start
 start c = c.before.before.before
 
 -- past the second the readings are as many as the blocks
-long : (c : tie.Else2) → eqb (length (start c).args.readings.now) (blocks (start c).args.head) ≡ true
-long c = eq-eqb _ _ c.if2.false
+long : (c : tie.Else-readings-m) → eqb (length (start c).args.readings.now) (blocks (start c).args.head) ≡ true
+long c = eq-eqb _ _ c.if-readings-m.false
 
-abbrev else3-start : tie.Else3 → tie.Start
+abbrev else3-start : tie.Else-is_refused → tie.Start
 else3-start c = c.before.before.before.before.before.before
 
 -- past the third none is out of range
-close : (c : tie.Else3) → in_reach (else3-start c).args.readings.now ≡ accepted
-close c = sym c.before.before.reach-refusal.ensures ∙ accepting _ (sym c.before.is-refused.ensures ∙ c.if3.false)
+close : (c : tie.Else-is_refused) → in_reach (else3-start c).args.readings.now ≡ accepted
+close c = sym c.reach_refusal-reached.ensures ∙ accepting _ (sym c.is_refused.ensures ∙ c.if-is_refused.false)
 
-returns : tie.Need-returns
+returns : tie.Need-returns-then-not-sized
 unfolding squared_readings_verdict
 returns c =
     let s = c.before.before.before in
-    c.no-sum.ensures ∙ square_refused
+    c.no_sum.ensures ∙ square_refused
     (squared_readings_verdict s.args.head s.args.readings.now) _ (refused 4 0) refl
-    (rw (sym c.before.before.sized.ensures ∙ not-true _ c.before.if1.true))
+    (rw (sym c.sized.ensures ∙ not-true _ c.if-not-sized.true-raw))
 
-returns-2 : tie.Need-returns-2
+returns-2 : tie.Need-returns-then-readings-m
 unfolding squared_readings_verdict
 returns-2 c =
     let s = c.before.before.before.before in
-    c.no-sum2.ensures
+    c.no_sum-then-readings-m.ensures
     ∙ square_refused (squared_readings_verdict s.args.head
-    s.args.readings.now) _ (refused 3 0) refl (rw (passed c.before.before, ne_eqb _ _ c.before.if2.true))
+    s.args.readings.now) _ (refused 3 0) refl (rw (passed c.before.before, ne_eqb _ _ c.if-readings-m.true))
 
-returns-3 : tie.Need-returns-3
+returns-3 : tie.Need-returns-then-is_refused
 unfolding squared_readings_verdict
 returns-3 c =
-    c.no-sum3.ensures
-    ∙ square_refused _ _ _ (sym c.before.before.is-refused.ensures ∙ c.before.if3.true)
-    (rw (passed c.before.before.before.before.before, long c.before.before.before.before, sym c.before.before.before.reach-refusal.ensures))
+    c.no_sum-then-is_refused.ensures
+    ∙ square_refused _ _ _ (sym c.is_refused.ensures ∙ c.if-is_refused.true)
+    (rw (passed c.before.before.before.before.before, long c.before.before.before.before, sym c.reach_refusal-reached.ensures))
 
-returns-4 : tie.Need-returns-4
+returns-4 : tie.Need-returns
 unfolding squared_readings_verdict
 returns-4 c =
     square_accepted _ _ _ (rw (passed c.before.before.before.before.before, long c.before.before.before.before, close c.before))
-    (c.squared-readings.ensures ∙ ap wide (sym (readings-squares _ _)))
+    (c.squared_readings-sum.ensures ∙ ap wide (sym (readings-squares _ _)))
 
 pub sum_of_squares_spec : {M : Type 1} → statement M
 sum_of_squares_spec =

@@ -8,17 +8,17 @@ use Rattle.weighing.proofs.totals.Refusing.{develops_clean}
 use Rattle.weighing.proofs.totals.developed.Statement.{statement}
 use Rattle.weighing.proofs.totals.developed.Tie as tie
 
-returns : tie.Need-returns
+returns : tie.Need-returns-then-is_refused
 returns c =
-    let r = refusing _ (sym c.before.is-refused.ensures ∙ c.if1.true) in
-    rw (sym c.before.before.slices-refusal.ensures ∙ r) (search r, search rules)
+    let r = refusing _ (sym c.is_refused.ensures ∙ c.if-is_refused.true) in
+    rw (sym c.slices_refusal-sliced.ensures ∙ r) (search r, search rules)
 
-returns-2 : tie.Need-returns-2
+returns-2 : tie.Need-returns
 returns-2 c =
-    let a = c.before.before.before.before.before.before.args in
-    let same = develops_clean _ _ a.readings.now c.before.develop-arg.given.0.1
-    (sym c.before.before.before.before.slices-refusal.ensures
-    ∙ accepting _ (sym c.before.before.before.is-refused.ensures ∙ c.before.before.if1.false)) in
+    let a = c.args in
+    let same = develops_clean _ _ a.readings.now c.develop-arg-1.given.0.1
+    (sym c.slices_refusal-sliced.ensures
+    ∙ accepting _ (sym c.is_refused.ensures ∙ c.if-is_refused.false)) in
     (c.develop.ensures.0 ∙ same, c.develop.ensures.1 ∙ ap (λ (v : Verdict). words_under v a.head a.blocks.now a.words.now) same)
 
 pub developed_spec : {M : Type 1} → statement M

@@ -21,49 +21,49 @@ use Rattle.weighing.proofs.totals.total.Statement.{statement}
 use Rattle.weighing.proofs.totals.total.Tie as tie
 
 -- past the blocks
-module _ (c : tie.Else1) where
+module _ (c : tie.Else-is_refused) where
   abbrev start : tie.Start
   start = c.before.before.before.before.before
 
   passed : slices start.args.head start.args.blocks.now start.args.readings.now
       ⨾ clean start.args.head start.args.blocks.now ≡ accepted
-  passed = sym c.before.before.developed.ensures.0 ∙ accepting _ (sym c.before.is-refused.ensures ∙ c.if1.false)
+  passed = sym c.developed-tested.ensures.0 ∙ accepting _ (sym c.is_refused.ensures ∙ c.if-is_refused.false)
 
-  laid : Laid start.args.head start.args.blocks.now c.before.before.developed.new.1.1.1.0
-  laid = lay _ _ _ _ _ refl c.before.before.developed.ensures.1 passed
+  laid : Laid start.args.head start.args.blocks.now c.developed-tested.new.words
+  laid = lay _ _ _ _ _ refl c.developed-tested.ensures.1 passed
 
 -- v
 counted : (c : tie.After-objects) → c.objects.result ≡ objects (start c.before).args.head
 counted c = c.objects.ensures ∙ within-sizes _ _ (laid c.before).sizes
 
-returns : tie.Need-returns
+returns : tie.Need-returns-then-is_refused
 returns c =
-    let r = sym c.before.before.is-refused.ensures ∙ c.before.if1.true in
-    c.no-total.ensures ∙ no_total_is _ _ _ _ _ r (total-refused _ _ _ _ _ _ (sym c.before.before.before.developed.ensures.0 ∙ refusing _ r))
+    let r = sym c.is_refused.ensures ∙ c.if-is_refused.true in
+    c.no_total.ensures ∙ no_total_is _ _ _ _ _ r (total-refused _ _ _ _ _ _ (sym c.developed-tested.ensures.0 ∙ refusing _ r))
 
-returns-2 : tie.Need-returns-2
+returns-2 : tie.Need-returns-then-objects-object
 returns-2 c =
     let v = counted c.before.before in
-    c.no-total2.ensures ∙ no_total_is _ _ _ _ (refused 5 _) refl (total_no_object _ _ _ _ (passed c.before.before.before) (rw (← v) (search rules)))
+    c.no_total-then-objects-object.ensures ∙ no_total_is _ _ _ _ (refused 5 _) refl (total_no_object _ _ _ _ (passed c.before.before.before) (rw (← v) (search rules)))
 
 -- the object has its place among 50 totals
-mul_total : tie.Need-overflow-mul-total
+mul_total : tie.Need-offset_bounds-totals-object
 mul_total c = let f = (laid c.before.before.before.before.before.before).sizes in omega (arith, counted c.before.before.before.before.before)
 
-array_copy_out_total : tie.Need-array-copy-out-total
+array_copy_out_total : tie.Need-bounds-totals-object
 array_copy_out_total c = let f = (laid c.before.before.before.before.before.before).sizes in
     omega (arith, counted c.before.before.before.before.before)
 
-returns-3 : tie.Need-returns-3
+returns-3 : tie.Need-returns
 returns-3 c =
     let p = c.before.before.before.before.before.before.before in
     let v = counted c.before.before.before.before.before.before in
-    let w = c.before.before.weigh.ensures in
-    let x : ℤ = get_or c.before.before.weigh.new.1.1.1.0 (start p).args.object (pos 0) in
-    let fits : SFits w64 x = record { sfits = search c.total.given } in
+    let w = c.weigh-weighed.ensures in
+    let x : ℤ = get_or c.weigh-weighed.new.totals (start p).args.object (pos 0) in
+    let fits : SFits w64 x = record { sfits = search c.total-1.given } in
     ap₂ (λ (v : Verdict) (z : ℤ). record { verdict = v; total = z }) (ap (λ (r : SquareSum). r.verdict) w.0)
     (to_z-of_z fits ∙ ap (λ (l : List ℤ). get_or l (start p).args.object (pos 0)) w.1)
-    ∙ total-weighed _ _ _ _ (passed p) _ (laid p) (reached _ _ _ _ _ refl p.before.before.developed.ensures.1 (passed p)) (rw (← v) (search rules))
+    ∙ total-weighed _ _ _ _ (passed p) _ (laid p) (reached _ _ _ _ _ refl p.developed-tested.ensures.1 (passed p)) (rw (← v) (search rules))
 
 pub total_spec : {M : Type 1} → statement M
 total_spec =
@@ -76,7 +76,7 @@ total_spec =
     (λ c κs. search rules)
     (λ c κs. search rules)
     returns-2
-    (λ c. words_long _ _ _ _ _ refl c.before.before.before.before.before.developed.ensures.1)
+    (λ c. words_long _ _ _ _ _ refl c.developed-tested.ensures.1)
     (λ c. search rules)
     (λ c κs. search rules)
     mul_total

@@ -16,16 +16,16 @@ use Rattle.weighing.specs.Verdicts.{stray_word, weigh_verdict}
 use Rattle.weighing.proofs.weighable.weighing_refusal.Statement.{statement}
 use Rattle.weighing.proofs.weighable.weighing_refusal.Tie as tie
 
-abbrev else1-start : tie.Else1 → tie.Start
+abbrev else1-start : tie.Else-not-sized → tie.Start
 else1-start c = c.before.before.before
 
 -- past the first test the sizes hold
-passed : (c : tie.Else1) → sized (else1-start c).args.head ≡ true
-passed c = sym c.before.sized.ensures ∙ not-false _ c.if1.false
+passed : (c : tie.Else-not-sized) → sized (else1-start c).args.head ≡ true
+passed c = sym c.sized.ensures ∙ not-false _ c.if-not-sized.false-raw
 
 -- past the second and the third the lengths do
-module _ (c : tie.Else3) where
-  abbrev at-objects : tie.After-objects
+module _ (c : tie.Else-readings-b) where
+  abbrev at-objects : tie.After-objects-v
   at-objects = c.before.before.before
 
   abbrev start : tie.Start
@@ -34,56 +34,56 @@ module _ (c : tie.Else3) where
   sizes : sized start.args.head ≡ true
   sizes = passed c.before.before.before.before
 
-  counted : at-objects.objects.result ≡ objects start.args.head
-  counted = at-objects.objects.ensures ∙ within-sizes _ _ (fits _ sizes)
+  counted : at-objects.objects-v.result ≡ objects start.args.head
+  counted = at-objects.objects-v.ensures ∙ within-sizes _ _ (fits _ sizes)
 
   words_long : leb (2 * blocks start.args.head) (length start.args.words.now) ≡ true
-  words_long = le-leb _ _ c.before.if2.false
+  words_long = le-leb _ _ c.if-words-b.false
 
   readings-long : eqb (length start.args.readings.now) (blocks start.args.head) ≡ true
-  readings-long = eq-eqb _ _ c.if3.false
+  readings-long = eq-eqb _ _ c.if-readings-b.false
 
-returns : tie.Need-returns
+returns : tie.Need-returns-then-not-sized
 unfolding weigh_verdict
-returns c = rw (sym c.before.sized.ensures ∙ not-true _ c.if1.true) (search rules)
+returns c = rw (sym c.sized.ensures ∙ not-true _ c.if-not-sized.true-raw) (search rules)
 
-returns-2 : tie.Need-returns-2
+returns-2 : tie.Need-returns-then-words-b
 unfolding weigh_verdict
-returns-2 c = rw (passed c.before.before.before, lt-leb _ _ c.if2.true)
+returns-2 c = rw (passed c.before.before.before, lt-leb _ _ c.if-words-b.true)
 
-returns-3 : tie.Need-returns-3
+returns-3 : tie.Need-returns-then-readings-b
 unfolding weigh_verdict
-returns-3 c = rw (passed c.before.before.before.before, le-leb _ _ c.before.if2.false, ne_eqb _ _ c.if3.true)
+returns-3 c = rw (passed c.before.before.before.before, le-leb _ _ c.if-words-b.false, ne_eqb _ _ c.if-readings-b.true)
 
 -- the first word that strays
-stray : (c : tie.After-stray-word) → c.stray-word.result
+stray : (c : tie.After-stray_word-stray) → c.stray_word-stray.result
     ≡ stray_word (start c.before).args.words.now (2 * blocks (start c.before).args.head) (objects (start c.before).args.head)
-stray c = c.stray-word.ensures ∙ ap (stray_word (start c.before).args.words.now (2 * blocks (start c.before).args.head)) (counted c.before)
+stray c = c.stray_word-stray.ensures ∙ ap (stray_word (start c.before).args.words.now (2 * blocks (start c.before).args.head)) (counted c.before)
 
-returns-4 : tie.Need-returns-4
+returns-4 : tie.Need-returns-then-stray-b
 unfolding weigh_verdict
 returns-4 c =
     let s = c.before.before in
-    rw (sizes s, words_long s, readings-long s, ← (stray c.before), ne_eqb _ _ c.if4.true) (search rules)
+    rw (sizes s, words_long s, readings-long s, ← (stray c.before), ne_eqb _ _ c.if-stray-b.true) (search rules)
 
 -- past the fourth no word strays
-stayed : (c : tie.Else4) → let s = start c.before.before in
+stayed : (c : tie.Else-stray-b) → let s = start c.before.before in
     eqb (stray_word s.args.words.now (2 * blocks s.args.head) (objects s.args.head)) (2 * blocks s.args.head) ≡ true
-stayed c = eq-eqb _ _ (sym (stray c.before) ∙ c.if4.false)
+stayed c = eq-eqb _ _ (sym (stray c.before) ∙ c.if-stray-b.false)
 
-returns-5 : tie.Need-returns-5
+returns-5 : tie.Need-returns-then-is_refused
 unfolding weigh_verdict
 returns-5 c =
     let e = c.before.before.before in
     let s = c.before.before.before.before.before in
-    let r = refusing _ (sym c.before.is-refused.ensures ∙ c.if5.true) in
-    rw (sizes s, words_long s, readings-long s, stayed e, sym c.before.before.reach-refusal.ensures ∙ r) r
+    let r = refusing _ (sym c.is_refused.ensures ∙ c.if-is_refused.true) in
+    rw (sizes s, words_long s, readings-long s, stayed e, sym c.reach_refusal-reached.ensures ∙ r) r
 
 -- past the fifth no reading is out of range
-reached : (c : tie.Else5) → in_reach (start c.before.before.before.before.before).args.readings.now ≡ accepted
-reached c = sym c.before.before.reach-refusal.ensures ∙ accepting _ (sym c.before.is-refused.ensures ∙ c.if5.false)
+reached : (c : tie.Else-is_refused) → in_reach (start c.before.before.before.before.before).args.readings.now ≡ accepted
+reached c = sym c.reach_refusal-reached.ensures ∙ accepting _ (sym c.is_refused.ensures ∙ c.if-is_refused.false)
 
-returns-6 : tie.Need-returns-6
+returns-6 : tie.Need-returns-then-room-v
 unfolding weigh_verdict
 returns-6 c =
     let e = c.before.before.before.before in
@@ -97,7 +97,7 @@ returns-6 c =
       lt-leb (objects (start s).args.head) (start s).args.room (omega (arith, counted s)),
     )
 
-returns-7 : tie.Need-returns-7
+returns-7 : tie.Need-returns
 unfolding weigh_verdict
 returns-7 c =
     let e = c.before.before.before.before in

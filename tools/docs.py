@@ -15,8 +15,8 @@ SOURCES = {".rt", ".antt", ".rs", ".py", ".h", ".c", ".toml", ".txt", ".edit", "
 
 def lines_of(path):
     """the lines of a file of definitions, without comments, blanks and imports"""
-    text = pathlib.Path(path).read_text(encoding="utf-8").split("\n")
-    return sum(1 for line in text if line.strip() and not line.lstrip().startswith(("--", "use ", "pub use ")))
+    text = re.sub(r"^ *(?:pub )?use [^\n{]*(?:\{[^{}]*\})?", "", pathlib.Path(path).read_text(encoding="utf-8"), flags=re.M)
+    return sum(1 for line in text.split("\n") if line.strip() and not line.lstrip().startswith("--"))
 
 
 def counted(page):

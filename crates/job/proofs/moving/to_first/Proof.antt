@@ -16,38 +16,38 @@ use Rattle.job.proofs.second.Fields.{part-is}
 use Rattle.job.proofs.moving.to_first.Statement.{statement}
 use Rattle.job.proofs.moving.to_first.Tie as tie
 
-returns : tie.Need-returns
+returns : tie.Need-returns-then-is_refused
 returns c =
-    let a = c.before.before.before.before.before.args in
-    unput (to_first_verdict a.bytes.now (length a.out.now)) (four_of a.bytes.now) a.out.now _ c.before.before.to-first-refusal.ensures
-    (sym c.before.is-refused.ensures ∙ c.if1.true)
+    let a = c.args in
+    unput (to_first_verdict a.bytes.now (length a.out.now)) (four_of a.bytes.now) a.out.now _ c.to_first_refusal-verdict.ensures
+    (sym c.is_refused.ensures ∙ c.if-is_refused.true)
 
 -- the move is accepted
-module _ (c : tie.After-four-end) where
+module _ (c : tie.After-four_end-end) where
   abbrev bytes : List ℕ
-  bytes = c.before.before.before.before.before.before.args.bytes.now
+  bytes = c.args.bytes.now
 
   abbrev out : List ℕ
-  out = c.before.before.before.before.before.before.args.out.now
+  out = c.args.out.now
 
-  says : c.before.before.before.to-first-refusal.result ≡ accepted
-  says = accepting _ (sym c.before.before.is-refused.ensures ∙ c.before.if1.false)
+  says : c.to_first_refusal-verdict.result ≡ accepted
+  says = accepting _ (sym c.is_refused.ensures ∙ c.if-is_refused.false)
 
   verdict : to_first_verdict bytes (length out) ≡ accepted
-  verdict = sym c.before.before.before.to-first-refusal.ensures ∙ says
+  verdict = sym c.to_first_refusal-verdict.ensures ∙ says
 
-  inside : c.four-end.result ≤ length bytes
+  inside : c.four_end-end.result ≤ length bytes
   inside = omega (
     arith,
-    c.four-end.ensures,
+    c.four_end-end.ensures,
     four-inside bytes (whole bytes (file_job2 bytes (first-room bytes (length out) verdict).0).0).edition_there.long,
   )
 
-returns-2 : tie.Need-returns-2
+returns-2 : tie.Need-returns
 returns-2 c =
     let one = c.before.before in
     let e = one.before.before.before in
-    let file = named one.put-text.ensures (part-is (bytes e) e.four-end.result e.four-end.ensures) in
+    let file = named one.put_text-length.ensures (part-is (bytes e) e.four_end-end.result e.four_end-end.ensures) in
     put (to_first_verdict (bytes e) (length (out e))) (four_of (bytes e)) (out e) _ (says e) (verdict e) file
     (first-room (bytes e) (length (out e)) (verdict e)).1 (omega arith)
 
@@ -59,8 +59,8 @@ to_first_spec =
     (λ c κs. search rules)
     returns
     (λ c κs. search rules)
-    (λ c. omega (arith, c.before.four-end.ensures))
-    (λ c. omega (arith, c.before.four-end.ensures))
+    (λ c. omega (arith, c.four_end-end.ensures))
+    (λ c. omega (arith, c.four_end-end.ensures))
     (λ c. inside c.before)
     (λ c κs. search rules)
     (λ c. search rules)

@@ -9,34 +9,34 @@ use Rattle.job.proofs.moving.Putting.{first-refused, first-optional, first_short
 use Rattle.job.proofs.moving.to_first_refusal.Statement.{statement}
 use Rattle.job.proofs.moving.to_first_refusal.Tie as tie
 
-returns : tie.Need-returns
+returns : tie.Need-returns-then-is_refused
 returns c =
-    let a = c.before.before.before.before.args in
-    first-refused a.bytes.now a.space _ c.before.before.second-refusal.ensures (sym c.before.is-refused.ensures ∙ c.if1.true)
+    let a = c.args in
+    first-refused a.bytes.now a.space _ c.second_refusal-tested.ensures (sym c.is_refused.ensures ∙ c.if-is_refused.true)
 
 -- past the tests of reading
-passed : (c : tie.Else1) → read_verdict2 c.before.before.before.before.args.bytes.now ≡ accepted
-passed c = sym c.before.before.second-refusal.ensures ∙ accepting _ (sym c.before.is-refused.ensures ∙ c.if1.false)
+passed : (c : tie.Else-is_refused) → read_verdict2 c.args.bytes.now ≡ accepted
+passed c = sym c.second_refusal-tested.ensures ∙ accepting _ (sym c.is_refused.ensures ∙ c.if-is_refused.false)
 
-returns-2 : tie.Need-returns-2
+returns-2 : tie.Need-returns-then-end-bytes
 returns-2 c =
-    let a = c.before.before.before.before.before.before.args in
-    let end = c.before.four-end.ensures in
+    let a = c.args in
+    let end = c.four_end-end.ensures in
     rw (first-optional a.bytes.now a.space (passed c.before.before) (omega (arith, end)), end) (search rules)
 
-sub_if3 : tie.Need-overflow-sub-if3
-sub_if3 c = omega (arith, c.before.four-end.ensures)
+sub_if3 : tie.Need-overflow_sub-end
+sub_if3 c = omega (arith, c.four_end-end.ensures)
 
-returns-3 : tie.Need-returns-3
+returns-3 : tie.Need-returns-then-space-end
 returns-3 c =
-    let a = c.before.before.before.before.before.before.before.args in
-    let end = c.before.before.four-end.ensures in
+    let a = c.args in
+    let end = c.four_end-end.ensures in
     rw (first_short a.bytes.now a.space (passed c.before.before.before) (omega (arith, end)) (omega (arith, end))) (search rules)
 
-returns-4 : tie.Need-returns-4
+returns-4 : tie.Need-returns
 returns-4 c =
-    let a = c.before.before.before.before.before.before.before.args in
-    let end = c.before.before.four-end.ensures in
+    let a = c.args in
+    let end = c.four_end-end.ensures in
     rw (first_there a.bytes.now a.space (passed c.before.before.before) (omega (arith, end)) (omega (arith, end))) (search rules)
 
 pub to_first_refusal_spec : {M : Type 1} → statement M

@@ -11,23 +11,23 @@ use Rattle.job.proofs.moving.Putting.{second-room}
 use Rattle.job.proofs.moving.to_second.Statement.{statement}
 use Rattle.job.proofs.moving.to_second.Tie as tie
 
-returns : tie.Need-returns
+returns : tie.Need-returns-then-is_refused
 returns c =
-    let a = c.before.before.before.before.before.args in
+    let a = c.args in
     unput (to_second_verdict a.bytes.now (length a.out.now)) (second_of a.bytes.now) a.out.now _
-    c.before.before.to-second-refusal.ensures
-    (sym c.before.is-refused.ensures ∙ c.if1.true)
+    c.to_second_refusal-verdict.ensures
+    (sym c.is_refused.ensures ∙ c.if-is_refused.true)
 
-returns-2 : tie.Need-returns-2
+returns-2 : tie.Need-returns
 returns-2 c =
     let two = c.before.before in
     let one = two.before.before.before.before in
     let else1 = one.before.before.before in
     let told = else1.before.before in
-    let a = told.before.before.before.args in
-    let says = accepting _ (sym else1.before.is-refused.ensures ∙ else1.if1.false) in
-    let verdict = sym told.to-second-refusal.ensures ∙ says in
-    let file = named {t = second_of a.bytes.now} (one.put-text.ensures then two.put-text2.ensures) (search rules) in
+    let a = told.args in
+    let says = accepting _ (sym else1.is_refused.ensures ∙ else1.if-is_refused.false) in
+    let verdict = sym told.to_second_refusal-verdict.ensures ∙ says in
+    let file = named {t = second_of a.bytes.now} (one.put_text-start.ensures then two.put_text-length.ensures) (search rules) in
     put (to_second_verdict a.bytes.now (length a.out.now)) (second_of a.bytes.now) a.out.now _ says verdict file
     (omega (arith, second-room a.bytes.now (length a.out.now) verdict)) (omega arith)
 

@@ -10,26 +10,26 @@ use Rattle.job.proofs.moving.Putting.{second-refused, second_short, second_there
 use Rattle.job.proofs.moving.to_second_refusal.Statement.{statement}
 use Rattle.job.proofs.moving.to_second_refusal.Tie as tie
 
-returns : tie.Need-returns
+returns : tie.Need-returns-then-is_refused
 returns c =
-    let a = c.before.before.before.before.args in
-    second-refused a.bytes.now a.space _ c.before.before.read-refusal.ensures (sym c.before.is-refused.ensures ∙ c.if1.true)
+    let a = c.args in
+    second-refused a.bytes.now a.space _ c.read_refusal-tested.ensures (sym c.is_refused.ensures ∙ c.if-is_refused.true)
 
 -- past the tests of reading
-passed : (c : tie.Else1) → read_verdict c.before.before.before.before.args.bytes.now ≡ accepted
-passed c = sym c.before.before.read-refusal.ensures ∙ accepting _ (sym c.before.is-refused.ensures ∙ c.if1.false)
+passed : (c : tie.Else-is_refused) → read_verdict c.args.bytes.now ≡ accepted
+passed c = sym c.read_refusal-tested.ensures ∙ accepting _ (sym c.is_refused.ensures ∙ c.if-is_refused.false)
 
-add_if2 : tie.Need-overflow-add-if2
-add_if2 c = omega (arith, longest_file c.before.before.before.before.args.bytes.now (passed c))
+add_if2 : tie.Need-overflow_add-bytes
+add_if2 c = omega (arith, longest_file c.args.bytes.now (passed c))
 
-returns-2 : tie.Need-returns-2
+returns-2 : tie.Need-returns-then-space-bytes
 returns-2 c =
-    let a = c.before.before.before.before.before.args in
+    let a = c.args in
     rw (second_short a.bytes.now a.space (passed c.before) (omega arith)) (search rules)
 
-returns-3 : tie.Need-returns-3
+returns-3 : tie.Need-returns
 returns-3 c =
-    let a = c.before.before.before.before.before.args in
+    let a = c.args in
     rw (second_there a.bytes.now a.space (passed c.before) (omega arith)) (search rules)
 
 pub to_second_refusal_spec : {M : Type 1} → statement M

@@ -12,69 +12,69 @@ use Rattle.job.proofs.places.file_place.Statement.{statement}
 use Rattle.job.proofs.places.file_place.Tie as tie
 
 -- where everything stands; early enough that no place wraps
-module _ (c : tie.After-held) where
+module _ (c : tie.After-held-held) where
   abbrev bytes : List ℕ
-  bytes = c.before.before.args.bytes.now
+  bytes = c.args.bytes.now
 
-  starts : c.held.result.blocks_at ≡ blocks_at
-  starts = ap (λ (k : Held). k.blocks_at) c.held.ensures
+  starts : c.held-held.result.blocks_at ≡ blocks_at
+  starts = ap (λ (k : Held). k.blocks_at) c.held-held.ensures
 
-  ends : c.held.result.restraint_at ≡ third_at bytes
-  ends = ap (λ (k : Held). k.restraint_at) c.held.ensures
+  ends : c.held-held.result.restraint_at ≡ third_at bytes
+  ends = ap (λ (k : Held). k.restraint_at) c.held-held.ensures
 
-  reads : c.held.result.readings_at ≡ readings_at bytes
-  reads = ap (λ (k : Held). k.readings_at) c.held.ensures
+  reads : c.held-held.result.readings_at ≡ readings_at bytes
+  reads = ap (λ (k : Held). k.readings_at) c.held-held.ensures
 
   low : third_at bytes ≤ 130060
-  low = third_bound bytes (c.before.shared-slice-known.given 5) (c.before.shared-slice-known.given 6)
+  low = third_bound bytes (c.shared_slice_known-1.given 5) (c.shared_slice_known-1.given 6)
 
-returns : tie.Need-returns
+returns : tie.Need-returns-then-number-eq5
 returns c =
     let s = c.before.before.before.before in
     rw (starts c.before.before)
     (place_byte s.args.bytes.now s.args.number
-    s.args.i (search c.before.if1.true))
+    s.args.i (search c.if-number-eq5.true))
 
-add_result : tie.Need-overflow-add-result
-add_result c = omega (arith, starts c.before.before, c.before.before.before.before.requires)
+add_result : tie.Need-overflow_add-result
+add_result c = omega (arith, starts c.before.before, c.requires)
 
-returns-2 : tie.Need-returns-2
+returns-2 : tie.Need-returns-then-number-eq7
 returns-2 c =
     let s = c.before.before.before.before in
     ends c.before.before
     ∙ place-restraint s.args.bytes.now s.args.number
-    s.args.i c.if2.true
+    s.args.i c.if-number-eq7.true
 
-returns-3 : tie.Need-returns-3
+returns-3 : tie.Need-returns-then-number-eq11
 returns-3 c =
     let s = c.before.before.before.before.before in
     ends c.before.before.before
     ∙ place-standards s.args.bytes.now s.args.number
-    s.args.i c.if3.true
+    s.args.i c.if-number-eq11.true
 
-mul_result : tie.Need-overflow-mul-result
-mul_result c = omega (arith, c.before.before.before.before.before.before.requires)
+mul_result : tie.Need-overflow_mul-result
+mul_result c = omega (arith, c.requires)
 
-add_result_2 : tie.Need-overflow-add-result-2
+add_result_2 : tie.Need-overflow_add-result-then-number-eq8
 add_result_2 c = omega (
   arith,
   reads c.before.before.before.before.before,
   low c.before.before.before.before.before,
-  c.before.before.before.before.before.before.before.requires,
+  c.requires,
 )
 
-returns-4 : tie.Need-returns-4
+returns-4 : tie.Need-returns-then-number-eq8
 returns-4 c =
     let s = c.before.before.before.before.before.before.before in
     rw (reads c.before.before.before.before.before)
     (search (place-reading s.args.bytes.now
-    s.args.number s.args.i c.before.if4.true))
+    s.args.number s.args.i c.if-number-eq8.true))
 
-returns-5 : tie.Need-returns-5
+returns-5 : tie.Need-returns
 returns-5 c =
     let s = c.before.before.before.before.before.before in
     place_else s.args.bytes.now s.args.number
-    s.args.i c.before.before.before.if1.false c.before.before.if2.false c.before.if3.false c.if4.false
+    s.args.i c.if-number-eq5.false c.if-number-eq7.false c.if-number-eq11.false c.if-number-eq8.false
 
 pub file_place_spec : {M : Type 1} → statement M
 file_place_spec = tie.close (tie.spec (λ c κs. search rules) add_result returns returns-2 returns-3 mul_result add_result_2 returns-4 returns-5)

@@ -8,16 +8,15 @@ use Rattle.job.proofs.places.Places.{moved-place}
 use Rattle.job.proofs.places.moved.Statement.{statement}
 use Rattle.job.proofs.places.moved.Tie as tie
 
-returns : tie.Need-returns
-returns c = rw c.enum_told.given.1 (search rules)
+returns : tie.Need-returns-in-Accepted
+returns c = rw c.in-Accepted.is (search rules)
 
-file_place_requires : tie.Need-file-place-requires
-file_place_requires c κs = omega (arith, ap (λ (v : Verdict). place v) c.before.verdict.given.1, c.before.before.before.before.requires)
+file_place_requires : tie.Need-file_place-requires
+file_place_requires c κs = omega (arith, ap (λ (v : Verdict). place v) c.in-Refused.is, c.requires)
 
-returns-2 : tie.Need-returns-2
+returns-2 : tie.Need-returns-in-Refused
 returns-2 c =
-    let refusal = c.before.before.verdict.given in
-    rw (c.file-place.ensures, refusal.1) (moved-place c.before.before.before.before.before.args.bytes.now refusal.0.0 refusal.0.1.0)
+    rw (c.file_place.ensures, c.in-Refused.is) (moved-place c.args.bytes.now c.in-Refused.number c.in-Refused.i)
 
 pub moved_spec : {M : Type 1} → statement M
 moved_spec = tie.close (tie.spec (λ c. search rules) (λ c. search rules) file_place_requires returns returns-2)

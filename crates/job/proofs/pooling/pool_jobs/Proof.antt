@@ -18,23 +18,23 @@ use Rattle.job.proofs.pooling.Steps.{Walk, walk_starts, job, walk_fits, walk-bad
 use Rattle.job.proofs.pooling.pool_jobs.Statement.{statement}
 use Rattle.job.proofs.pooling.pool_jobs.Tie as tie
 
-abbrev invariant-loop : tie.invariant-loop
+abbrev invariant-loop : tie.invariant-loop-i
 invariant-loop bytes lengths sums₀ start₀ i₀ sums start i = Walk bytes lengths sums start i
 
-abbrev decreases-loop : tie.decreases-loop
+abbrev decreases-loop : tie.decreases-loop-i
 decreases-loop bytes lengths sums₀ start₀ i₀ sums start i = length lengths - i
 
 -- the job of a turn ends within the bytes
-module _ (c : tie.After-shared-slice-known3 invariant-loop decreases-loop) where
-  fits : c.before.before.loop.start + get_or c.before.before.before.before.before.args.lengths.now c.before.before.loop.i 0
-      ≤ length c.before.before.before.before.before.args.bytes.now
+module _ (c : tie.After-shared_slice_known-in-loop-i-1 invariant-loop decreases-loop) where
+  fits : c.loop-i.start + get_or c.args.lengths.now c.loop-i.i 0
+      ≤ length c.args.bytes.now
   fits =
-      let a = c.before.before.before.before.before.args in
-      let l = c.before.before.loop in
-      walk_fits a.bytes.now a.lengths.now l.sums l.start l.i l.invariant c.before.loop-test.true
+      let a = c.args in
+      let l = c.loop-i in
+      walk_fits a.bytes.now a.lengths.now l.sums l.start l.i l.invariant c.loop-i-test.true
 
 -- once the job of a turn was worked out and looked at
-module _ (c : tie.After-is-refused invariant-loop decreases-loop) where
+module _ (c : tie.After-is_refused invariant-loop decreases-loop) where
   abbrev start : tie.Start invariant-loop decreases-loop
   start = c.before.before.before.before.before.before.before.before
 
@@ -46,45 +46,45 @@ module _ (c : tie.After-is-refused invariant-loop decreases-loop) where
 
   abbrev file : List ℕ
   file =
-      let l = c.before.before.before.before.before.loop in
-      job bytes lengths l.sums l.start l.i l.invariant c.before.before.before.before.loop-test.true
+      let l = c.loop-i in
+      job bytes lengths l.sums l.start l.i l.invariant c.loop-i-test.true
 
-  verdict : c.before.work-out.result.verdict ≡ read_verdict file
-  verdict = ap (λ (r : Solved). r.verdict) c.before.work-out.ensures
+  verdict : c.work_out-solved.result.verdict ≡ read_verdict file
+  verdict = ap (λ (r : Solved). r.verdict) c.work_out-solved.ensures
 
-  refuses : c.is-refused.result ≡ true → given (read_verdict file) false true ≡ true
-  refuses t = ap (λ (v : Verdict). given v false true) (sym verdict) ∙ sym c.is-refused.ensures ∙ t
+  refuses : c.is_refused.result ≡ true → given (read_verdict file) false true ≡ true
+  refuses t = ap (λ (v : Verdict). given v false true) (sym verdict) ∙ sym c.is_refused.ensures ∙ t
 
-  accepts : c.is-refused.result ≡ false → read_verdict file ≡ accepted
-  accepts t = sym verdict ∙ accepting _ (sym c.is-refused.ensures ∙ t)
+  accepts : c.is_refused.result ≡ false → read_verdict file ≡ accepted
+  accepts t = sym verdict ∙ accepting _ (sym c.is_refused.ensures ∙ t)
 
-returns : tie.Need-returns invariant-loop decreases-loop
+returns : tie.Need-returns-then-is_refused invariant-loop decreases-loop
 returns c =
     let t = c.before.before in
-    let l = t.before.before.before.before.before.loop in
-    let bad = walk-bad (bytes t) (lengths t) l.sums l.start l.i l.invariant t.before.before.before.before.loop-test.true
-    (refuses t c.before.if1.true) in
+    let l = t.loop-i in
+    let bad = walk-bad (bytes t) (lengths t) l.sums l.start l.i l.invariant t.loop-i-test.true
+    (refuses t c.if-is_refused.true) in
     let told = ap (λ (v : Verdict). no_pool v l.i) (verdict t) in
-    search (c.no-pool.ensures ∙ told ∙ bad)
+    search (c.no_pool.ensures ∙ told ∙ bad)
 
-with_job_requires : tie.Need-with-job-requires invariant-loop decreases-loop
+with_job_requires : tie.Need-with_job-sums-requires invariant-loop decreases-loop
 with_job_requires c κs =
     let t = c.before in
-    let l = t.before.before.before.before.before.loop in
-    let few : l.i < 64 = omega (arith, t.before.before.before.before.loop-test.true, (start t).requires.most) in
-    taken (file t) (accepts t c.if1.false) l.sums l.i t.before.work-out.result t.before.work-out.ensures few l.invariant.light
+    let l = t.loop-i in
+    let few : l.i < 64 = omega (arith, t.loop-i-test.true, (start t).requires.most) in
+    taken (file t) (accepts t c.if-is_refused.false) l.sums l.i t.work_out-solved.result t.work_out-solved.ensures few l.invariant.light
 
-loop-again : tie.Need-loop-preserved invariant-loop decreases-loop
+loop-again : tie.Need-loop-i-preserved invariant-loop decreases-loop
 loop-again c =
     let t = c.before.before in
-    let l = t.before.before.before.before.before.loop in
-    search (walk-goes (bytes t) (lengths t) l.sums l.start l.i l.invariant t.before.before.before.before.loop-test.true
-    t.before.work-out.result c.with-job.result (accepts t c.before.if1.false) t.before.work-out.ensures c.with-job.ensures)
+    let l = t.loop-i in
+    search (walk-goes (bytes t) (lengths t) l.sums l.start l.i l.invariant t.loop-i-test.true
+    t.work_out-solved.result c.with_job-sums.result (accepts t c.if-is_refused.false) t.work_out-solved.ensures c.with_job-sums.ensures)
 
-returns-2 : tie.Need-returns-2 invariant-loop decreases-loop
+returns-2 : tie.Need-returns invariant-loop decreases-loop
 returns-2 c =
-    let a = c.before.before.before.before.before.args in
-    let l = c.before.before.loop in
+    let a = c.args in
+    let l = c.loop-i in
     search (c.finish.ensures ∙ walk_ends a.bytes.now a.lengths.now l.sums l.start l.i l.invariant (omega arith))
 
 pub pool_jobs_spec : {M : Type 1} → statement M
@@ -93,7 +93,7 @@ pool_jobs_spec =
     (tie.spec
     invariant-loop
     decreases-loop
-    (λ c. walk_starts _ _ c.before.before.requires)
+    (λ c. walk_starts _ _ c.requires)
     (λ c. omega arith)
     (λ c. omega arith)
     (λ c. omega (arith, fits c))

@@ -12,30 +12,30 @@ use Rattle.job.proofs.pooling.Cutting.{sum_on, sum-next, sum-end}
 use Rattle.job.proofs.pooling.sum_is.Statement.{statement}
 use Rattle.job.proofs.pooling.sum_is.Tie as tie
 
-abbrev invariant-loop : tie.invariant-loop
+abbrev invariant-loop : tie.invariant-loop-i
 invariant-loop total lengths left₀ i₀ left i = (i ≤ length lengths) × (lengths_sum (drop i lengths) + total ≡ left + lengths_sum lengths)
 
-abbrev decreases-loop : tie.decreases-loop
+abbrev decreases-loop : tie.decreases-loop-i
 decreases-loop total lengths left₀ i₀ left i = length lengths - i
 
-loop-holds : tie.Need-loop-init invariant-loop decreases-loop
+loop-holds : tie.Need-loop-i-init invariant-loop decreases-loop
 loop-holds c = (omega arith, add_comm (lengths_sum c.args.lengths.now) c.args.total)
 
-returns : tie.Need-returns invariant-loop decreases-loop
+returns : tie.Need-returns-then-left-length invariant-loop decreases-loop
 returns c =
-    let l = c.before.before.before.loop in
-    let lengths = c.before.before.before.before.args.lengths.now in
-    let total = c.before.before.before.before.args.total in
-    let on = sum_on lengths l.i c.before.before.loop-test.true in
+    let l = c.loop-i in
+    let lengths = c.args.lengths.now in
+    let total = c.args.total in
+    let on = sum_on lengths l.i c.loop-i-test.true in
     sym (ne_eqb (lengths_sum lengths) total (λ e. omega (arith, on, l.invariant.1)))
 
-loop-again : tie.Need-loop-preserved invariant-loop decreases-loop
+loop-again : tie.Need-loop-i-preserved invariant-loop decreases-loop
 loop-again c =
-    let l = c.before.before.before.loop in
-    let on = sum-next c.before.before.before.before.args.lengths.now l.i c.before.before.loop-test.true in
-    let lengths = c.before.before.before.before.args.lengths.now in
+    let l = c.loop-i in
+    let on = sum-next c.args.lengths.now l.i c.loop-i-test.true in
+    let lengths = c.args.lengths.now in
     let fits : get_or lengths l.i 0 ≤ l.left = omega arith in
-    let next : lengths_sum (drop (l.i + 1) lengths) + c.before.before.before.before.args.total ≡ l.left - get_or lengths l.i 0 + lengths_sum lengths =
+    let next : lengths_sum (drop (l.i + 1) lengths) + c.args.total ≡ l.left - get_or lengths l.i 0 + lengths_sum lengths =
     omega (arith, on, l.invariant.1, fits) in
     (omega arith, next)
 
@@ -47,19 +47,19 @@ module _ (lengths : List ℕ) (total left i : ℕ) (most : i ≤ length lengths)
       let end : i ≡ length lengths = omega arith in
       omega (arith, sum-end lengths i end, kept)
 
-returns-2 : tie.Need-returns-2 invariant-loop decreases-loop
+returns-2 : tie.Need-returns-then-left-ne0 invariant-loop decreases-loop
 returns-2 c =
-    let l = c.before.before.loop in
-    let a = c.before.before.before.args in
+    let l = c.loop-i in
+    let a = c.args in
     let b = balance a.lengths.now a.total l.left l.i l.invariant.0 (omega arith) l.invariant.1 in
-    sym (ne_eqb (lengths_sum a.lengths.now) a.total (λ e. c.if2.true (omega (arith, b, e))))
+    sym (ne_eqb (lengths_sum a.lengths.now) a.total (λ e. c.if-left-ne0.true (omega (arith, b, e))))
 
-returns-3 : tie.Need-returns-3 invariant-loop decreases-loop
+returns-3 : tie.Need-returns invariant-loop decreases-loop
 returns-3 c =
-    let l = c.before.before.loop in
-    let a = c.before.before.before.args in
+    let l = c.loop-i in
+    let a = c.args in
     let b = balance a.lengths.now a.total l.left l.i l.invariant.0 (omega arith) l.invariant.1 in
-    let same : lengths_sum a.lengths.now ≡ a.total = omega (arith, b, c.if2.false) in
+    let same : lengths_sum a.lengths.now ≡ a.total = omega (arith, b, c.if-left-ne0.false) in
     sym (eq-eqb (lengths_sum a.lengths.now) a.total same)
 
 pub sum_is_spec : {M : Type 1} → statement M

@@ -5,30 +5,30 @@ use Rattle.job.proofs.pooling.Steps.{first_in, later_in}
 use Rattle.job.proofs.pooling.with_job.Statement.{statement}
 use Rattle.job.proofs.pooling.with_job.Tie as tie
 
-returns : tie.Need-returns
+returns : tie.Need-returns-then-i-eq0
 returns c =
-    let a = c.before.before.before.before.before.args in
-    search (first_in a.sums a.i a.solved c.before.if1.true)
+    let a = c.args in
+    search (first_in a.sums a.i a.solved c.if-i-eq0.true)
 
-add_freedom : tie.Need-overflow-add-freedom
+add_freedom : tie.Need-overflow_add-freedom
 add_freedom c =
-    let p = c.before.before.before.before.before.before.before.before.requires in
+    let p = c.requires in
     omega (arith, p.few, p.freedom-most, p.job-freedom)
 
-returns-2 : tie.Need-returns-2
+returns-2 : tie.Need-returns
 returns-2 c =
-    let a = c.before.before.before.before.before.before.before.before.args in
-    let alike = c.before.before.before.alike-with in
-    let sum = c.before.before.add in
-    search (later_in a.sums a.i a.solved sum.result alike.result sum.ensures c.before.before.before.before.if1.false alike.ensures)
+    let a = c.args in
+    let alike = c.alike_with-alike in
+    let sum = c.add-q in
+    search (later_in a.sums a.i a.solved sum.result alike.result sum.ensures c.if-i-eq0.false alike.ensures)
 
 pub with_job_spec : {M : Type 1} → statement M
 with_job_spec =
     tie.close
     (tie.spec
-    (λ c. c.before.before.before.requires.more)
+    (λ c. c.requires.more)
     returns
-    (λ c κs. c.before.before.before.before.requires.few)
+    (λ c κs. c.requires.few)
     (λ c κs. search rules)
     add_freedom
     returns-2)

@@ -8,8 +8,8 @@ use Rattle.job.proofs.pooling.work_out.Tie as tie
 
 returns : tie.Need-returns
 returns c =
-    let a = c.before.before.before.before.before.before.before.before.args in
-    search (c.before.before.before.solve.ensures.0 ∙ enough a.bytes.now _ _ _ (omega arith) (omega arith) (omega arith))
+    let a = c.args in
+    search (c.solve.ensures.0 ∙ enough a.bytes.now _ _ _ (omega arith) (omega arith) (omega arith))
 
 pub work_out_spec : {M : Type 1} → statement M
 work_out_spec = tie.close (tie.spec (λ c. search rules) (λ c. search rules) (λ c. search rules) (λ c κs. search rules) returns)

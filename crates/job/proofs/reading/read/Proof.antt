@@ -8,17 +8,17 @@ use Rattle.job.proofs.reading.Directly.{read_is, read-refused}
 use Rattle.job.proofs.reading.read.Statement.{statement}
 use Rattle.job.proofs.reading.read.Tie as tie
 
-returns : tie.Need-returns
-returns c = c.no-job.ensures ∙ read-refused _ _ c.before.before.before.read-refusal.ensures
-    (sym c.before.before.is-refused.ensures ∙ c.before.if1.true)
+returns : tie.Need-returns-then-is_refused
+returns c = c.no_job.ensures ∙ read-refused _ _ c.read_refusal-verdict.ensures
+    (sym c.is_refused.ensures ∙ c.if-is_refused.true)
 
-returns-2 : tie.Need-returns-2
+returns-2 : tie.Need-returns
 returns-2 c =
-    let e = sym c.before.before.before.before.before.read-refusal.ensures
-    ∙ accepting _ (sym c.before.before.before.before.is-refused.ensures ∙ c.before.before.before.if1.false) in
-    let bytes = c.before.before.before.before.before.before.before.args.bytes.now in
-    let held = c.before.before.held in
-    let sum = read_back _ c.struct_told.given.1.1.1.1.1.1.0.1 ∙ ap (λ (k : Held). k.sum) held.ensures in
+    let e = sym c.read_refusal-verdict.ensures
+    ∙ accepting _ (sym c.is_refused.ensures ∙ c.if-is_refused.false) in
+    let bytes = c.args.bytes.now in
+    let held = c.held-held in
+    let sum = read_back _ c.struct_told-1.given.1.1.1.1.1.1.0.1 ∙ ap (λ (k : Held). k.sum) held.ensures in
     search (read_is bytes held.result _ e held.ensures sum)
 
 pub read_spec : {M : Type 1} → statement M

@@ -10,20 +10,20 @@ use Rattle.job.proofs.reading.read_refusal.Statement.{statement}
 use Rattle.job.proofs.reading.read_refusal.Tie as tie
 
 -- past the first test the fields are there
-passed : (c : tie.Else1) → fields c.before.before.before.before.args.bytes.now ≡ accepted
-passed c = sym c.before.before.fields-refusal.ensures ∙ accepting _ (sym c.before.is-refused.ensures ∙ c.if1.false)
+passed : (c : tie.Else-is_refused) → fields c.args.bytes.now ≡ accepted
+passed c = sym c.fields_refusal-framed.ensures ∙ accepting _ (sym c.is_refused.ensures ∙ c.if-is_refused.false)
 
-returns : tie.Need-returns
+returns : tie.Need-returns-then-is_refused
 unfolding read_verdict
 returns c =
-    let r = refusing _ (sym c.before.is-refused.ensures ∙ c.if1.true) in
-    rw (sym c.before.before.fields-refusal.ensures ∙ r) r
+    let r = refusing _ (sym c.is_refused.ensures ∙ c.if-is_refused.true) in
+    rw (sym c.fields_refusal-framed.ensures ∙ r) r
 
 moved_requires : tie.Need-moved-requires
-moved_requires c κs = rw c.direct-refusal.ensures (direct-near _ (passed c.before))
+moved_requires c κs = rw c.direct_refusal-direct.ensures (direct-near _ (passed c.before))
 
-returns-2 : tie.Need-returns-2
-returns-2 c = c.moved.ensures ∙ ap (placed _) c.before.direct-refusal.ensures ∙ read-direct _ (passed c.before.before)
+returns-2 : tie.Need-returns
+returns-2 c = c.moved.ensures ∙ ap (placed c.args.bytes.now) c.direct_refusal-direct.ensures ∙ read-direct _ (passed c.before.before)
 
 pub read_refusal_spec : {M : Type 1} → statement M
 read_refusal_spec = tie.close (tie.spec (λ c κs. search rules) (λ c κs. search rules) returns (λ c κs. passed c) moved_requires returns-2)

@@ -14,20 +14,20 @@ use Rattle.job.proofs.second.names_length.Statement.{statement}
 use Rattle.job.proofs.second.names_length.Tie as tie
 
 -- the head
-module _ (c : tie.After-held) where
-  head : c.held.result.head ≡ head_of c.before.before.args.four.now
-  head = ap (λ (k : Held). k.head) c.held.ensures
+module _ (c : tie.After-held-held) where
+  head : c.held-held.result.head ≡ head_of c.args.four.now
+  head = ap (λ (k : Held). k.head) c.held-held.ensures
 
-  sizes : Fits (head_of c.before.before.args.four.now)
-  sizes = fits _ (filed _ c.before.before.requires).size
+  sizes : Fits (head_of c.args.four.now)
+  sizes = fits _ (filed _ c.requires).size
 
-count : (c : tie.After-objects) → c.objects.result ≡ objects (head_of c.before.before.before.args.four.now)
+count : (c : tie.After-objects) → c.objects.result ≡ objects (head_of c.args.four.now)
 count c =
-    c.objects.ensures ∙ ap (λ (h : Head). cond (sized h) (objects h) 0) (head c.before)
-    ∙ ap (λ (b : Bool). cond b (objects (head_of c.before.before.before.args.four.now)) 0) (filed _ c.before.before.before.requires).size
+    c.objects.ensures ∙ ap (λ (h : Head). cond (sized h) (objects h) 0) (head c.before.before)
+    ∙ ap (λ (b : Bool). cond b (objects (head_of c.args.four.now)) 0) (filed _ c.requires).size
 
-mul_result : tie.Need-overflow-mul-result
-mul_result c = omega (arith, count c, (sizes c.before).objects-most)
+mul_result : tie.Need-overflow_mul-result
+mul_result c = omega (arith, count c, (sizes c.before.before).objects-most)
 
 returns : tie.Need-returns
 returns c = rw (count c) (search rules)

@@ -15,62 +15,62 @@ use Rattle.job.proofs.second.Nearness.{fields-place}
 use Rattle.job.proofs.second.second_fields.Statement.{statement}
 use Rattle.job.proofs.second.second_fields.Tie as tie
 
-returns : tie.Need-returns
-returns c = rw (too_long c.before.before.args.bytes.now c.if1.true) (search rules)
+returns : tie.Need-returns-then-bytes-gt-FILE_LIMIT
+returns c = rw (too_long c.args.bytes.now c.if-bytes-gt-FILE_LIMIT.true) (search rules)
 
-returns-2 : tie.Need-returns-2
+returns-2 : tie.Need-returns-then-is_refused
 returns-2 c =
-    edition_refuses c.before.before.before.before.before.args.bytes.now (omega arith) _ c.before.before.edition-refusal.ensures
-    (sym c.before.is-refused.ensures ∙ c.if2.true)
+    edition_refuses c.args.bytes.now (omega arith) _ c.edition_refusal-edition.ensures
+    (sym c.is_refused.ensures ∙ c.if-is_refused.true)
 
 -- the edition is there, and the four fields end within the bytes
-module _ (c : tie.After-four-end) where
+module _ (c : tie.After-four_end-end) where
   abbrev bytes : List ℕ
-  bytes = c.before.before.before.before.before.before.args.bytes.now
+  bytes = c.args.bytes.now
 
   there : edition bytes ≡ accepted
-  there = sym c.before.before.before.edition-refusal.ensures ∙ accepting _ (sym c.before.before.is-refused.ensures ∙ c.before.if2.false)
+  there = sym c.edition_refusal-edition.ensures ∙ accepting _ (sym c.is_refused.ensures ∙ c.if-is_refused.false)
 
   short : length bytes ≤ file_limit2
   short = omega arith
 
-  inside : c.four-end.result ≤ length bytes
-  inside = omega (arith, c.four-end.ensures, four-inside bytes (edited bytes there).long)
+  inside : c.four_end-end.result ≤ length bytes
+  inside = omega (arith, c.four_end-end.ensures, four-inside bytes (edited bytes there).long)
 
-  four : take (c.four-end.result - 4) (drop 4 bytes) ≡ four_of bytes
-  four = part-is bytes c.four-end.result c.four-end.ensures
+  four : take (c.four_end-end.result - 4) (drop 4 bytes) ≡ four_of bytes
+  four = part-is bytes c.four_end-end.result c.four_end-end.ensures
 
   small : length (four_of bytes) ≤ file_limit2
   small = omega (arith, short, four-inside bytes (edited bytes there).long)
 
-moved_on_requires : tie.Need-moved-on-requires
+moved_on_requires : tie.Need-moved_on-framed-requires
 moved_on_requires c κs =
     let e = c.before.before in
-    omega (arith, ap place (c.fields-refusal.ensures ∙ ap (λ (t : List ℕ). fields t) (four e)), fields-place (four_of (bytes e)), small e)
+    omega (arith, ap place (c.fields_refusal.ensures ∙ ap (λ (t : List ℕ). fields t) (four e)), fields-place (four_of (bytes e)), small e)
 
 -- what was found of the four fields
-found : (c : tie.After-moved-on) → c.moved_on.result ≡ moved_on (fields (four_of (bytes c.before.before.before)))
-found c = c.moved_on.ensures ∙ ap moved_on (c.before.fields-refusal.ensures ∙ ap (λ (t : List ℕ). fields t) (four c.before.before.before))
+found : (c : tie.After-moved_on-framed) → c.moved_on-framed.result ≡ moved_on (fields (four_of (bytes c.before.before.before)))
+found c = c.moved_on-framed.ensures ∙ ap moved_on (c.fields_refusal.ensures ∙ ap (λ (t : List ℕ). fields t) (four c.before.before.before))
 
-returns-3 : tie.Need-returns-3
+returns-3 : tie.Need-returns-then-is_refused-2
 returns-3 c =
     let e = c.before.before.before.before.before in
-    four_refuses (bytes e) (short e) (there e) _ (found c.before.before) (sym c.before.is-refused2.ensures ∙ c.if3.true)
+    four_refuses (bytes e) (short e) (there e) _ (found c.before.before) (sym c.is_refused-2.ensures ∙ c.if-is_refused-2.true)
 
-passed : (c : tie.Else3) → moved_on (fields (four_of (bytes c.before.before.before.before.before))) ≡ accepted
-passed c = sym (found c.before.before) ∙ accepting _ (sym c.before.is-refused2.ensures ∙ c.if3.false)
+passed : (c : tie.Else-is_refused-2) → moved_on (fields (four_of (bytes c.before.before.before.before.before))) ≡ accepted
+passed c = sym (found c.before.before) ∙ accepting _ (sym c.is_refused-2.ensures ∙ c.if-is_refused-2.false)
 
-names_length_requires : tie.Need-names-length-requires
+names_length_requires : tie.Need-names_length-names-requires
 names_length_requires c κs =
     let e = c.before.before.before.before.before.before in
     ap (λ (t : List ℕ). fields t) (four e) ∙ moved-accepted _ (passed c.before)
 
-returns-4 : tie.Need-returns-4
+returns-4 : tie.Need-returns
 returns-4 c =
     let e = c.before.before.before.before.before.before.before.before in
-    let names : c.before.names-length.result ≡ names_length (head_of (four_of (bytes e))) =
-    c.before.names-length.ensures ∙ ap (λ (t : List ℕ). names_length (head_of t)) (four e) in
-    c.optional-refusal.ensures ∙ optional-is (bytes e) _ _ names e.four-end.ensures
+    let names : c.names_length-names.result ≡ names_length (head_of (four_of (bytes e))) =
+    c.names_length-names.ensures ∙ ap (λ (t : List ℕ). names_length (head_of t)) (four e) in
+    c.optional_refusal.ensures ∙ optional-is (bytes e) _ _ names e.four_end-end.ensures
     ∙ sym (optional-counts (bytes e) (short e) (there e) (passed c.before.before.before))
 
 pub second_fields_spec : {M : Type 1} → statement M
@@ -82,15 +82,15 @@ second_fields_spec =
     (λ c κs. search rules)
     returns-2
     (λ c κs. search rules)
-    (λ c. omega (arith, c.four-end.ensures))
-    (λ c. omega (arith, c.four-end.ensures))
+    (λ c. omega (arith, c.four_end-end.ensures))
+    (λ c. omega (arith, c.four_end-end.ensures))
     (λ c. inside c)
     (λ c κs. search rules)
     moved_on_requires
     (λ c κs. search rules)
     returns-3
-    (λ c. omega (arith, c.before.before.before.before.before.four-end.ensures))
-    (λ c. omega (arith, c.before.before.before.before.before.four-end.ensures))
+    (λ c. omega (arith, c.four_end-end.ensures))
+    (λ c. omega (arith, c.four_end-end.ensures))
     (λ c. inside c.before.before.before.before.before)
     names_length_requires
     (λ c κs. search rules)

@@ -16,33 +16,33 @@ use Rattle.job.proofs.second.Nearness.{read-place}
 use Rattle.job.proofs.second.second_refusal.Statement.{statement}
 use Rattle.job.proofs.second.second_refusal.Tie as tie
 
-returns : tie.Need-returns
+returns : tie.Need-returns-then-is_refused
 returns c =
-    fields_refuse c.before.before.before.before.args.bytes.now _ c.before.before.second-fields.ensures
-    (sym c.before.is-refused.ensures ∙ c.if1.true)
+    fields_refuse c.args.bytes.now _ c.second_fields-framed.ensures
+    (sym c.is_refused.ensures ∙ c.if-is_refused.true)
 
 -- the fields are there
-module _ (c : tie.After-four-end) where
+module _ (c : tie.After-four_end-end) where
   abbrev bytes : List ℕ
-  bytes = c.before.before.before.before.before.args.bytes.now
+  bytes = c.args.bytes.now
 
   there : fields2 bytes ≡ accepted
-  there = sym c.before.before.before.second-fields.ensures ∙ accepting _ (sym c.before.before.is-refused.ensures ∙ c.before.if1.false)
+  there = sym c.second_fields-framed.ensures ∙ accepting _ (sym c.is_refused.ensures ∙ c.if-is_refused.false)
 
-  inside : c.four-end.result ≤ length bytes
-  inside = omega (arith, c.four-end.ensures, four-inside bytes (whole bytes there).edition_there.long)
+  inside : c.four_end-end.result ≤ length bytes
+  inside = omega (arith, c.four_end-end.ensures, four-inside bytes (whole bytes there).edition_there.long)
 
-  four : take (c.four-end.result - 4) (drop 4 bytes) ≡ four_of bytes
-  four = part-is bytes c.four-end.result c.four-end.ensures
+  four : take (c.four_end-end.result - 4) (drop 4 bytes) ≡ four_of bytes
+  four = part-is bytes c.four_end-end.result c.four_end-end.ensures
 
 -- what was read of the four
-read : (c : tie.After-read-refusal) → c.read-refusal.result ≡ read_verdict (four_of (bytes c.before.before))
-read c = c.read-refusal.ensures ∙ ap (λ (t : List ℕ). read_verdict t) (four c.before.before)
+read : (c : tie.After-read_refusal) → c.read_refusal.result ≡ read_verdict (four_of (bytes c.before.before))
+read c = c.read_refusal.ensures ∙ ap (λ (t : List ℕ). read_verdict t) (four c.before.before)
 
-moved_on_requires : tie.Need-moved-on-requires
+moved_on_requires : tie.Need-moved_on-requires
 moved_on_requires c κs = let e = c.before.before in omega (arith, ap place (read c), read-place (four_of (bytes e)) (whole (bytes e) (there e)).four)
 
-returns-2 : tie.Need-returns-2
+returns-2 : tie.Need-returns
 returns-2 c = let e = c.before.before.before in
     c.moved_on.ensures ∙ ap moved_on (read c.before) ∙ sym (read_moved2 (bytes e) (there e))
 
@@ -54,8 +54,8 @@ second_refusal_spec =
     (λ c κs. search rules)
     returns
     (λ c κs. search rules)
-    (λ c. omega (arith, c.four-end.ensures))
-    (λ c. omega (arith, c.four-end.ensures))
+    (λ c. omega (arith, c.four_end-end.ensures))
+    (λ c. omega (arith, c.four_end-end.ensures))
     (λ c. inside c)
     (λ c κs. search rules)
     moved_on_requires

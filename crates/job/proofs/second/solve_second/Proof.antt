@@ -15,35 +15,35 @@ use Rattle.job.proofs.second.Nearness.{solve_place}
 use Rattle.job.proofs.second.solve_second.Statement.{statement}
 use Rattle.job.proofs.second.solve_second.Tie as tie
 
-returns : tie.Need-returns
+returns : tie.Need-returns-then-is_refused
 returns c =
-    let a = c.before.before.before.before.before.before.args in
-    let e = solve_none a.bytes.now _ c.before.before.before.second-fields.ensures
-    (sym c.before.before.is-refused.ensures ∙ c.before.if1.true)
+    let a = c.args in
+    let e = solve_none a.bytes.now _ c.second_fields-framed.ensures
+    (sym c.is_refused.ensures ∙ c.if-is_refused.true)
     (length a.words.now) (length a.values.now) (length a.deviations.now) _ a.words.now a.values.now a.deviations.now
-    c.no-solution.ensures in
+    c.no_solution.ensures in
     (search rules, (search rules, (search rules, search rules)))
 
 -- the fields are there
-module _ (c : tie.After-four-end) where
+module _ (c : tie.After-four_end-end) where
   abbrev bytes : List ℕ
-  bytes = c.before.before.before.before.before.before.args.bytes.now
+  bytes = c.args.bytes.now
 
   there : fields2 bytes ≡ accepted
-  there = sym c.before.before.before.second-fields.ensures ∙ accepting _ (sym c.before.before.is-refused.ensures ∙ c.before.if1.false)
+  there = sym c.second_fields-framed.ensures ∙ accepting _ (sym c.is_refused.ensures ∙ c.if-is_refused.false)
 
-  inside : c.four-end.result ≤ length bytes
-  inside = omega (arith, c.four-end.ensures, four-inside bytes (whole bytes there).edition_there.long)
+  inside : c.four_end-end.result ≤ length bytes
+  inside = omega (arith, c.four_end-end.ensures, four-inside bytes (whole bytes there).edition_there.long)
 
-  four : take (c.four-end.result - 4) (drop 4 bytes) ≡ four_of bytes
-  four = part-is bytes c.four-end.result c.four-end.ensures
+  four : take (c.four_end-end.result - 4) (drop 4 bytes) ≡ four_of bytes
+  four = part-is bytes c.four_end-end.result c.four_end-end.ensures
 
-solved_on_requires : tie.Need-solved-on-requires
+solved_on_requires : tie.Need-solved_on-requires
 solved_on_requires c κs =
     let v = c.before.before.before.before in
     let e = v.before.before.before.before.before in
-    let a = e.before.before.before.before.before.before.args in
-    let r = rw (four e) at v.solve.ensures in
+    let a = e.args in
+    let r = rw (four e) at v.solve-solved.ensures in
     omega (
       arith,
       ap (λ (x : Solved). place x.verdict) r.0,
@@ -51,11 +51,11 @@ solved_on_requires c κs =
           (length a.words.now) (length a.values.now) (length a.deviations.now),
     )
 
-returns-2 : tie.Need-returns-2
+returns-2 : tie.Need-returns
 returns-2 c =
     let v = c.before.before.before.before.before in
     let e = v.before.before.before.before.before in
-    let r = solve_there (bytes e) (there e) _ _ _ _ _ _ _ _ _ _ _ _ (four e) c.solved-on.ensures v.solve.ensures in
+    let r = solve_there (bytes e) (there e) _ _ _ _ _ _ _ _ _ _ _ _ (four e) c.solved_on.ensures v.solve-solved.ensures in
     (search rules, (search rules, (search rules, search rules)))
 
 pub solve_second_spec : {M : Type 1} → statement M
@@ -67,8 +67,8 @@ solve_second_spec =
     (λ c κs. search rules)
     returns
     (λ c κs. search rules)
-    (λ c. omega (arith, c.four-end.ensures))
-    (λ c. omega (arith, c.four-end.ensures))
+    (λ c. omega (arith, c.four_end-end.ensures))
+    (λ c. omega (arith, c.four_end-end.ensures))
     (λ c. inside c)
     (λ c κs. search rules)
     solved_on_requires

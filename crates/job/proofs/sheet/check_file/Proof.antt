@@ -11,26 +11,26 @@ use Rattle.job.proofs.sheet.Checking.{file-refused, file-held}
 use Rattle.job.proofs.sheet.check_file.Statement.{statement}
 use Rattle.job.proofs.sheet.check_file.Tie as tie
 
-returns : tie.Need-returns
+returns : tie.Need-returns-then-is_refused
 returns c =
     let t = c.before.before.before in
-    let a = t.before.before.args in
-    let r = refusing _ (sym c.before.before.is-refused.ensures ∙ c.before.if1.true) in
-    search (c.under.ensures ∙ file-refused a.bytes.now a.claims.now a.claimed _ _ _ r t.read-refusal.ensures)
+    let a = t.args in
+    let r = refusing _ (sym c.is_refused.ensures ∙ c.if-is_refused.true) in
+    search (c.under.ensures ∙ file-refused a.bytes.now a.claims.now a.claimed _ _ _ r t.read_refusal-tested.ensures)
 
 -- the file is accepted
-module _ (c : tie.Else1) where
+module _ (c : tie.Else-is_refused) where
   abbrev bytes : List ℕ
-  bytes = c.before.before.before.before.args.bytes.now
+  bytes = c.args.bytes.now
 
   reads : read_verdict bytes ≡ accepted
-  reads = sym c.before.before.read-refusal.ensures ∙ accepting _ (sym c.before.is-refused.ensures ∙ c.if1.false)
+  reads = sym c.read_refusal-tested.ensures ∙ accepting _ (sym c.is_refused.ensures ∙ c.if-is_refused.false)
 
-returns-2 : tie.Need-returns-2
+returns-2 : tie.Need-returns
 returns-2 c =
     let e = c.before in
-    let a = e.before.before.before.before.args in
-    search (c.check-held.ensures ∙ file-held a.bytes.now a.claims.now a.claimed (reads e))
+    let a = e.args in
+    search (c.check_held.ensures ∙ file-held a.bytes.now a.claims.now a.claimed (reads e))
 
 pub check_file_spec : {M : Type 1} → statement M
 check_file_spec =

@@ -26,47 +26,47 @@ use Rattle.job.proofs.solving.Rooms.{solve_near, solve_direct, solve_refused}
 use Rattle.job.proofs.solving.solve.Statement.{statement}
 use Rattle.job.proofs.solving.solve.Tie as tie
 
-abbrev start : tie.Else1 → tie.Start
+abbrev start : tie.Else-is_refused → tie.Start
 start c = c.before.before.before.before.before
 
 -- past the first test the fields are there
-passed : (c : tie.Else1) → fields (start c).args.bytes.now ≡ accepted
-passed c = sym c.before.before.fields-refusal.ensures ∙ accepting _ (sym c.before.is-refused.ensures ∙ c.if1.false)
+passed : (c : tie.Else-is_refused) → fields (start c).args.bytes.now ≡ accepted
+passed c = sym c.fields_refusal-framed.ensures ∙ accepting _ (sym c.is_refused.ensures ∙ c.if-is_refused.false)
 
-returns : tie.Need-returns
+returns : tie.Need-returns-then-is_refused
 returns c =
-    let a = c.before.before.before.before.before.before.args in
-    let e = solve_refused a.bytes.now _ c.before.before.before.fields-refusal.ensures
-    (sym c.before.before.is-refused.ensures ∙ c.before.if1.true)
+    let a = c.args in
+    let e = solve_refused a.bytes.now _ c.fields_refusal-framed.ensures
+    (sym c.is_refused.ensures ∙ c.if-is_refused.true)
     (length a.words.now) (length a.values.now) (length a.deviations.now) _ a.words.now a.values.now a.deviations.now
-    c.no-solution.ensures in
+    c.no_solution.ensures in
     (search rules, (search rules, (search rules, search rules)))
 
 -- what stands in the file
-module _ (c : tie.After-held) where
+module _ (c : tie.After-held-held) where
   abbrev held_start : tie.Start
   held_start = c.before.before.before.before.before.before
 
   abbrev bytes : List ℕ
   bytes = held_start.args.bytes.now
 
-  starts : c.held.result.blocks_at ≡ blocks_at
-  starts = ap (λ (k : Held). k.blocks_at) c.held.ensures
+  starts : c.held-held.result.blocks_at ≡ blocks_at
+  starts = ap (λ (k : Held). k.blocks_at) c.held-held.ensures
 
-  ends : c.held.result.restraint_at ≡ third_at bytes
-  ends = ap (λ (k : Held). k.restraint_at) c.held.ensures
+  ends : c.held-held.result.restraint_at ≡ third_at bytes
+  ends = ap (λ (k : Held). k.restraint_at) c.held-held.ensures
 
-  counts : c.held.result.count ≡ blocks (head_of bytes)
-  counts = ap (λ (k : Held). k.count) c.held.ensures
+  counts : c.held-held.result.count ≡ blocks (head_of bytes)
+  counts = ap (λ (k : Held). k.count) c.held-held.ensures
 
-part_analyse_end : tie.Need-slice-bounds-analyse-end
+part_analyse_end : tie.Need-slice_bounds-analyse-end
 part_analyse_end c = omega (arith, ends c.before.before.before.before, (filed _ (passed c.before.before.before.before.before)).ends)
 
-abbrev at_held : tie.After-readings → tie.After-held
+abbrev at_held : tie.After-readings → tie.After-held-held
 at_held c = c.before.before.before
 
 -- the readings are at most 1,300
-few : (c : tie.After-readings) → (at_held c).held.result.count ≤ length c.readings.new.1.1.1.0
+few : (c : tie.After-readings) → (at_held c).held-held.result.count ≤ length c.readings.new.out
 few c = omega (
   arith,
   counts (at_held c),
@@ -75,11 +75,11 @@ few c = omega (
 )
 
 -- what the direct call was handed
-module _ (c : tie.After-analyse) where
+module _ (c : tie.After-analyse-solved) where
   abbrev analyse_start : tie.Start
   analyse_start = c.before.before.before.before.before.before.before.before.before.before.before.before.before.before.before.before.before
 
-  abbrev analyse_held : tie.After-held
+  abbrev analyse_held : tie.After-held-held
   analyse_held = c.before.before.before.before.before.before.before.before.before.before.before
 
   abbrev at-readings : tie.After-readings
@@ -88,35 +88,35 @@ module _ (c : tie.After-analyse) where
   past : fields analyse_start.args.bytes.now ≡ accepted
   past = passed c.before.before.before.before.before.before.before.before.before.before.before.before
 
-  head : analyse_held.held.result.head ≡ head_of analyse_start.args.bytes.now
-  head = ap (λ (k : Held). k.head) analyse_held.held.ensures
+  head : analyse_held.held-held.result.head ≡ head_of analyse_start.args.bytes.now
+  head = ap (λ (k : Held). k.head) analyse_held.held-held.ensures
 
-  listed : take (analyse_held.held.result.restraint_at - analyse_held.held.result.blocks_at)
-      (drop analyse_held.held.result.blocks_at analyse_start.args.bytes.now) ≡ blocks_of analyse_start.args.bytes.now
-  listed = held-blocks analyse_start.args.bytes.now analyse_held.held.result analyse_held.held.ensures
+  listed : take (analyse_held.held-held.result.restraint_at - analyse_held.held-held.result.blocks_at)
+      (drop analyse_held.held-held.result.blocks_at analyse_start.args.bytes.now) ≡ blocks_of analyse_start.args.bytes.now
+  listed = held-blocks analyse_start.args.bytes.now analyse_held.held-held.result analyse_held.held-held.ensures
 
-  read : take analyse_held.held.result.count at-readings.readings.last.1.1.1.0 ≡ readings_of analyse_start.args.bytes.now
+  read : take analyse_held.held-held.result.count at-readings.readings.new.out ≡ readings_of analyse_start.args.bytes.now
   read =
       let most = readings-most _ past in
-      held-readings analyse_start.args.bytes.now analyse_held.held.result analyse_held.held.ensures _ _ (omega arith)
+      held-readings analyse_start.args.bytes.now analyse_held.held-held.result analyse_held.held-held.ensures _ _ (omega arith)
       at-readings.readings.ensures
 
-  set : analyse_held.held.result.set ≡ set_of analyse_start.args.bytes.now
-  set = ap (λ (k : Held). k.set) analyse_held.held.ensures
+  set : analyse_held.held-held.result.set ≡ set_of analyse_start.args.bytes.now
+  set = ap (λ (k : Held). k.set) analyse_held.held-held.ensures
 
-  sum : to_z w64 (of_z w64 analyse_held.held.result.sum) ≡ sum_of analyse_start.args.bytes.now
-  sum = read_back _ c.before.struct_told.given.1.1.1.1.1.1.0.1
-      ∙ ap (λ (k : Held). k.sum) analyse_held.held.ensures
+  sum : to_z w64 (of_z w64 analyse_held.held-held.result.sum) ≡ sum_of analyse_start.args.bytes.now
+  sum = read_back _ c.struct_told-1.given.1.1.1.1.1.1.0.1
+      ∙ ap (λ (k : Held). k.sum) analyse_held.held-held.ensures
 
-in_file_requires : tie.Need-in-file-requires
+in_file_requires : tie.Need-in_file-requires
 in_file_requires c κs =
     let a = c.before.before.before.before in
-    solve_near _ (past a) _ _ _ _ _ (head a) (listed a) (read a) (set a) (sum a) _ _ _ _ a.analyse.ensures.0
+    solve_near _ (past a) _ _ _ _ _ (head a) (listed a) (read a) (set a) (sum a) _ _ _ _ a.analyse-solved.ensures.0
 
-returns-2 : tie.Need-returns-2
+returns-2 : tie.Need-returns
 returns-2 c =
     let a = c.before.before.before.before.before in
-    let e = solve_direct _ (past a) _ _ _ _ _ (head a) (listed a) (read a) (set a) (sum a) _ _ _ _ _ _ _ _ _ _ _ c.in_file.ensures a.analyse.ensures in
+    let e = solve_direct _ (past a) _ _ _ _ _ (head a) (listed a) (read a) (set a) (sum a) _ _ _ _ _ _ _ _ _ _ _ c.in_file.ensures a.analyse-solved.ensures in
     (search rules, (search rules, (search rules, search rules)))
 
 pub solve_spec : {M : Type 1} → statement M

@@ -1,4 +1,4 @@
-/* The mass bench for C: the calls of target/staticlib/libapi.a, which `rt staticlib api` writes. It is proved for x86-64 Linux.
+/* The mass bench for C: the calls of crates/api/out/libapi.a, which tools/host-archive builds. It is proved for x86-64 Linux.
  *
  * Every call takes any input, ends, and hands back one number: 0 exactly where it accepts, else its refusal,
  *

@@ -15,8 +15,8 @@ SOURCES = {".rt", ".antt", ".rs", ".py", ".h", ".c", ".toml", ".txt", ".edit", "
 
 def lines_of(path):
     """the lines of a file of definitions, without comments, blanks and imports"""
-    text = pathlib.Path(path).read_text(encoding="utf-8").split("\n")
-    return sum(1 for line in text if line.strip() and not line.lstrip().startswith(("--", "use ", "pub use ")))
+    text = re.sub(r"^ *(?:pub )?use [^\n{]*(?:\{[^{}]*\})?", "", pathlib.Path(path).read_text(encoding="utf-8"), flags=re.M)
+    return sum(1 for line in text.split("\n") if line.strip() and not line.lstrip().startswith("--"))
 
 
 def counted(page):
@@ -39,10 +39,10 @@ def counted(page):
 
 def strange(pages):
     """names on the pages that the tree does not have"""
-    files = [f for place in PLACES for f in pathlib.Path(place).rglob("*") if f.is_file() and "target" not in f.parts and f.suffix in SOURCES]
+    files = [f for place in PLACES for f in pathlib.Path(place).rglob("*") if f.is_file() and not {"target", "out"} & {*f.parts} and f.suffix in SOURCES]
     words = {w for f in files for w in re.findall(r"[^\s(){}\[\],;:.`\"|]+", f.read_text(encoding="utf-8", errors="replace"))}
     words |= {f.stem for f in files} | {f.name for f in files} | {f.name for f in pathlib.Path("crates").iterdir()}
-    words |= {piece for w in list(words) for piece in re.split(r"[^\w′ᶠ₀-₉'-]+", w)}
+    words |= {piece for w in list(words) for piece in re.split(r"[^\w'ᶠ₀-₉-]+", w)}
     rooms = {f.name for f in pathlib.Path("crates").iterdir()}
     names = {f.name for f in files}
     for page, text in pages.items():
@@ -51,7 +51,7 @@ def strange(pages):
         for quoted in re.findall(r"`([^`\n]+)`", prose):
             if re.fullmatch(r"[\w-]+\.(rs|rt|antt|py|edit|h|c)", quoted) and quoted not in names:
                 yield f"{page}: `{quoted}`: no such file"
-            for name in re.findall(r"[A-Za-z_][\w′-]*[\w′]", quoted if " " not in quoted else ""):
+            for name in re.findall(r"[A-Za-z_][\w'-]*[\w']", quoted if " " not in quoted else ""):
                 if name not in words and name not in FOREIGN:
                     yield f"{page}: `{quoted}`: no {name} in the tree"
         for room, name in re.findall(r"(?<![\w/.])([a-z]+)/(\w+)(?![\w/.])", prose):

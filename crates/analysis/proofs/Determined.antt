@@ -9,7 +9,7 @@ use denote.Triple.Clauses.{AtExit}
 use Rattle.analysis.specs.contracts.deviations.deviations as deviations
 use Rattle.analysis.proofs.deviations.deviations.Kinds as deviations-kinds
 use Rattle.analysis.proofs.deviations.deviations.Reads as deviations-reads
-use Rattle.analysis.specs.contracts.deviations.deviation_of as deviation_of_lem
+use Rattle.analysis.specs.contracts.deviations.deviation_of as deviation-of
 use Rattle.analysis.proofs.deviations.deviation_of.Kinds as deviation-of-kinds
 use Rattle.analysis.proofs.deviations.deviation_of.Reads as deviation-of-reads
 use Rattle.analysis.specs.contracts.publishing.published as published
@@ -36,7 +36,7 @@ use Rattle.analysis.proofs.uncertainty.uncertainty_in.Reads as uncertainty-in-re
 use Rattle.analysis.specs.contracts.values.values as values
 use Rattle.analysis.proofs.values.values.Kinds as values-kinds
 use Rattle.analysis.proofs.values.values.Reads as values-reads
-use Rattle.analysis.specs.contracts.values.value_of as value_of_lem
+use Rattle.analysis.specs.contracts.values.value_of as value-of
 use Rattle.analysis.proofs.values.value_of.Kinds as value-of-kinds
 use Rattle.analysis.proofs.values.value_of.Reads as value-of-reads
 use Rattle.analysis.specs.contracts.whole.analyse as analyse
@@ -52,7 +52,7 @@ module _ (κs : Lfts 3) (a : ArgsD deviations.signature κs) (r q : ResD deviati
   deviations_determined p e = (p.0 ∙ sym e.0, p.1 ∙ sym e.1)
 
 -- `deviation_of`: the answer
-module _ (κs : Lfts 2) (a : ArgsD deviation_of_lem.signature κs) (r q : ResD deviation_of_lem.signature κs)
+module _ (κs : Lfts 2) (a : ArgsD deviation-of.signature κs) (r q : ResD deviation-of.signature κs)
     (s t : AtExit (ended_of 2 deviation-of-kinds.ps deviation-of-kinds.r) κs) where
   pub deviation_of_determined : deviation-of-reads.Post κs a r s → deviation-of-reads.Post κs a q t →
       r ≡ q
@@ -117,7 +117,7 @@ module _ (κs : Lfts 3) (a : ArgsD values.signature κs) (r q : ResD values.sign
   values_determined p e = (p.0 ∙ sym e.0, p.1 ∙ sym e.1)
 
 -- `value_of`: the answer
-module _ (κs : Lfts 2) (a : ArgsD value_of_lem.signature κs) (r q : ResD value_of_lem.signature κs)
+module _ (κs : Lfts 2) (a : ArgsD value-of.signature κs) (r q : ResD value-of.signature κs)
     (s t : AtExit (ended_of 2 value-of-kinds.ps value-of-kinds.r) κs) where
   pub value_of_determined : value-of-reads.Post κs a r s → value-of-reads.Post κs a q t →
       r ≡ q

@@ -32,11 +32,11 @@ use Rattle.arithmetic.proofs.wide.product.Kinds as product-kinds
 use Rattle.arithmetic.proofs.wide.product.Reads as product-reads
 use Rattle.arithmetic.specs.contracts.wide.add as add
 use Rattle.arithmetic.proofs.wide.add.Kinds as add-kinds
-use Rattle.arithmetic.proofs.wide.add.Reads as add_reads
+use Rattle.arithmetic.proofs.wide.add.Reads as add-reads
 use Rattle.arithmetic.specs.contracts.wide.add_square as add-square
 use Rattle.arithmetic.proofs.wide.add_square.Kinds as add-square-kinds
 use Rattle.arithmetic.proofs.wide.add_square.Reads as add-square-reads
-use Rattle.arithmetic.specs.contracts.wide.at_most as at_most
+use Rattle.arithmetic.specs.contracts.wide.at_most as at-most
 use Rattle.arithmetic.proofs.wide.at_most.Kinds as at-most-kinds
 use Rattle.arithmetic.proofs.wide.at_most.Reads as at-most-reads
 use Rattle.arithmetic.specs.contracts.wide.subtract as subtract
@@ -108,7 +108,7 @@ module _ (κs : Lfts 0) (a : ArgsD product.signature κs) (r q : ResD product.si
 -- `add`: the answer
 module _ (κs : Lfts 0) (a : ArgsD add.signature κs) (r q : ResD add.signature κs)
     (s t : AtExit (ended_of 0 add-kinds.ps add-kinds.r) κs) where
-  pub add_determined : add_reads.Post κs a r s → add_reads.Post κs a q t →
+  pub add_determined : add-reads.Post κs a r s → add-reads.Post κs a q t →
       r ≡ q
   add_determined p e = p ∙ sym e
 
@@ -120,7 +120,7 @@ module _ (κs : Lfts 0) (a : ArgsD add-square.signature κs) (r q : ResD add-squ
   add_square_determined p e = p ∙ sym e
 
 -- `at_most`: the answer
-module _ (κs : Lfts 0) (a : ArgsD at_most.signature κs) (r q : ResD at_most.signature κs)
+module _ (κs : Lfts 0) (a : ArgsD at-most.signature κs) (r q : ResD at-most.signature κs)
     (s t : AtExit (ended_of 0 at-most-kinds.ps at-most-kinds.r) κs) where
   pub at_most_determined : at-most-reads.Post κs a r s → at-most-reads.Post κs a q t →
       r ≡ q

@@ -9,7 +9,7 @@ use denote.Triple.Clauses.{AtExit}
 use Rattle.cards.specs.contracts.making.job_of_card as job-of-card
 use Rattle.cards.proofs.making.job_of_card.Kinds as job-of-card-kinds
 use Rattle.cards.proofs.making.job_of_card.Reads as job-of-card-reads
-use Rattle.cards.specs.contracts.places.line_of as Line-of
+use Rattle.cards.specs.contracts.places.line_of as line-of
 use Rattle.cards.proofs.places.line_of.Kinds as line-of-kinds
 use Rattle.cards.proofs.places.line_of.Reads as line-of-reads
 use Rattle.cards.specs.contracts.places.column_of as column-of
@@ -18,7 +18,7 @@ use Rattle.cards.proofs.places.column_of.Reads as column-of-reads
 use Rattle.cards.specs.contracts.printed.card_of as card-of
 use Rattle.cards.proofs.printed.card_of.Kinds as card-of-kinds
 use Rattle.cards.proofs.printed.card_of.Reads as card-of-reads
-use Rattle.cards.specs.contracts.printed.card_of_second as card_of_second
+use Rattle.cards.specs.contracts.printed.card_of_second as card-of-second
 use Rattle.cards.proofs.printed.card_of_second.Kinds as card-of-second-kinds
 use Rattle.cards.proofs.printed.card_of_second.Reads as card-of-second-reads
 
@@ -31,7 +31,7 @@ module _ (κs : Lfts 2) (a : ArgsD job-of-card.signature κs) (r q : ResD job-of
   job_of_card_determined p e = (p.0 ∙ sym e.0, p.1 ∙ sym e.1)
 
 -- `line_of`: the answer
-module _ (κs : Lfts 1) (a : ArgsD Line-of.signature κs) (r q : ResD Line-of.signature κs)
+module _ (κs : Lfts 1) (a : ArgsD line-of.signature κs) (r q : ResD line-of.signature κs)
     (s t : AtExit (ended_of 1 line-of-kinds.ps line-of-kinds.r) κs) where
   pub line_of_determined : line-of-reads.Post κs a r s → line-of-reads.Post κs a q t →
       r ≡ q
@@ -53,7 +53,7 @@ module _ (κs : Lfts 2) (a : ArgsD card-of.signature κs) (r q : ResD card-of.si
   card_of_determined p e = (p.0 ∙ sym e.0, p.1 ∙ sym e.1)
 
 -- `card_of_second`: the answer, `out`
-module _ (κs : Lfts 2) (a : ArgsD card_of_second.signature κs) (r q : ResD card_of_second.signature κs)
+module _ (κs : Lfts 2) (a : ArgsD card-of-second.signature κs) (r q : ResD card-of-second.signature κs)
     (s t : AtExit (ended_of 2 card-of-second-kinds.ps card-of-second-kinds.r) κs) where
   pub card_of_second_determined : card-of-second-reads.Post κs a r s → card-of-second-reads.Post κs a q t →
       (r ≡ q)

@@ -23,7 +23,7 @@ use Rattle.design.proofs.differences.count_differences.Kinds as count-difference
 use Rattle.design.proofs.differences.count_differences.Reads as count-differences-reads
 use Rattle.design.specs.contracts.sizes.sized as sized
 use Rattle.design.proofs.sizes.sized.Kinds as sized-kinds
-use Rattle.design.proofs.sizes.sized.Reads as sized_Reads
+use Rattle.design.proofs.sizes.sized.Reads as sized-reads
 use Rattle.design.specs.contracts.sizes.objects as objects
 use Rattle.design.proofs.sizes.objects.Kinds as objects-kinds
 use Rattle.design.proofs.sizes.objects.Reads as objects-reads
@@ -68,7 +68,7 @@ module _ (κs : Lfts 1) (a : ArgsD count-differences.signature κs) (r q : ResD 
 -- `sized`: the answer
 module _ (κs : Lfts 0) (a : ArgsD sized.signature κs) (r q : ResD sized.signature κs)
     (s t : AtExit (ended_of 0 sized-kinds.ps sized-kinds.r) κs) where
-  pub sized_determined : sized_Reads.Post κs a r s → sized_Reads.Post κs a q t →
+  pub sized_determined : sized-reads.Post κs a r s → sized-reads.Post κs a q t →
       r ≡ q
   sized_determined p e = p ∙ sym e
 

@@ -8,8 +8,8 @@ use borrow.Fn.Kinds.{ended_of}
 use denote.Triple.Clauses.{AtExit}
 use Rattle.fields.specs.contracts.contents.held as held
 use Rattle.fields.proofs.contents.held.Kinds as held-kinds
-use Rattle.fields.proofs.contents.held.Reads as held_reads
-use Rattle.fields.specs.contracts.framing.field_at as field_at
+use Rattle.fields.proofs.contents.held.Reads as held-reads
+use Rattle.fields.specs.contracts.framing.field_at as field-at
 use Rattle.fields.proofs.framing.field_at.Kinds as field-at-kinds
 use Rattle.fields.proofs.framing.field_at.Reads as field-at-reads
 use Rattle.fields.specs.contracts.order.fields_refusal as fields-refusal
@@ -28,12 +28,12 @@ use Rattle.fields.proofs.second.optional_refusal.Reads as optional-refusal-reads
 -- `held`: the answer
 module _ (κs : Lfts 1) (a : ArgsD held.signature κs) (r q : ResD held.signature κs)
     (s t : AtExit (ended_of 1 held-kinds.ps held-kinds.r) κs) where
-  pub held_determined : held_reads.Post κs a r s → held_reads.Post κs a q t →
+  pub held_determined : held-reads.Post κs a r s → held-reads.Post κs a q t →
       r ≡ q
   held_determined p e = p ∙ sym e
 
 -- `field_at`: the answer
-module _ (κs : Lfts 1) (a : ArgsD field_at.signature κs) (r q : ResD field_at.signature κs)
+module _ (κs : Lfts 1) (a : ArgsD field-at.signature κs) (r q : ResD field-at.signature κs)
     (s t : AtExit (ended_of 1 field-at-kinds.ps field-at-kinds.r) κs) where
   pub field_at_determined : field-at-reads.Post κs a r s → field-at-reads.Post κs a q t →
       r ≡ q

@@ -13,7 +13,7 @@ use Rattle.listing.proofs.certified.certificate.Reads as certificate-reads
 use Rattle.listing.specs.contracts.certified.certificate_second as certificate-second
 use Rattle.listing.proofs.certified.certificate_second.Kinds as certificate-second-kinds
 use Rattle.listing.proofs.certified.certificate_second.Reads as certificate-second-reads
-use Rattle.listing.specs.contracts.lines.put_refused as Put-refused
+use Rattle.listing.specs.contracts.lines.put_refused as put-refused
 use Rattle.listing.proofs.lines.put_refused.Kinds as put-refused-kinds
 use Rattle.listing.proofs.lines.put_refused.Reads as put-refused-reads
 use Rattle.listing.specs.contracts.second.listing_second as listing-second
@@ -40,7 +40,7 @@ module _ (κs : Lfts 2) (a : ArgsD certificate-second.signature κs) (r q : ResD
   certificate_second_determined p e = (p.0 ∙ sym e.0, p.1 ∙ sym e.1)
 
 -- `put_refused`: `out`, the place
-module _ (κs : Lfts 1) (a : ArgsD Put-refused.signature κs) (r q : ResD Put-refused.signature κs)
+module _ (κs : Lfts 1) (a : ArgsD put-refused.signature κs) (r q : ResD put-refused.signature κs)
     (s t : AtExit (ended_of 1 put-refused-kinds.ps put-refused-kinds.r) κs) where
   pub put_refused_determined : put-refused-reads.Post κs a r s → put-refused-reads.Post κs a q t →
       (s.0.now ≡ t.0.now)

@@ -14,8 +14,8 @@ use Rattle.numbers.proofs.signed.signed_64.Kinds as signed-64-kinds
 use Rattle.numbers.proofs.signed.signed_64.Reads as signed-64-reads
 use Rattle.numbers.specs.contracts.unsigned.byte as byte
 use Rattle.numbers.proofs.unsigned.byte.Kinds as byte-kinds
-use Rattle.numbers.proofs.unsigned.byte.Reads as byte-Reads
-use Rattle.numbers.specs.contracts.unsigned.two_bytes as two_bytes
+use Rattle.numbers.proofs.unsigned.byte.Reads as byte-reads
+use Rattle.numbers.specs.contracts.unsigned.two_bytes as two-bytes
 use Rattle.numbers.proofs.unsigned.two_bytes.Kinds as two-bytes-kinds
 use Rattle.numbers.proofs.unsigned.two_bytes.Reads as two-bytes-reads
 use Rattle.numbers.specs.contracts.unsigned.eight_bytes as eight-bytes
@@ -39,12 +39,12 @@ module _ (κs : Lfts 1) (a : ArgsD signed-64.signature κs) (r q : ResD signed-6
 -- `byte`: the answer
 module _ (κs : Lfts 1) (a : ArgsD byte.signature κs) (r q : ResD byte.signature κs)
     (s t : AtExit (ended_of 1 byte-kinds.ps byte-kinds.r) κs) where
-  pub byte_determined : byte-Reads.Post κs a r s → byte-Reads.Post κs a q t →
+  pub byte_determined : byte-reads.Post κs a r s → byte-reads.Post κs a q t →
       r ≡ q
   byte_determined p e = p ∙ sym e
 
 -- `two_bytes`: the answer
-module _ (κs : Lfts 1) (a : ArgsD two_bytes.signature κs) (r q : ResD two_bytes.signature κs)
+module _ (κs : Lfts 1) (a : ArgsD two-bytes.signature κs) (r q : ResD two-bytes.signature κs)
     (s t : AtExit (ended_of 1 two-bytes-kinds.ps two-bytes-kinds.r) κs) where
   pub two_bytes_determined : two-bytes-reads.Post κs a r s → two-bytes-reads.Post κs a q t →
       r ≡ q

@@ -5,7 +5,35 @@
 --     front_few, front_readings      the readings, from the front of a room of 1,300
 --     file_unwritten, file-written   the file of a practice job, refused and written
 -- Assumes nothing.
-use Rattle.std.proofs.Common.{◌≡◌, ℕ, zero, suc, ◌*◌, ◌<◌, ◌≤◌, true, false, ◌&&◌, eqb, leb, List, [], ◌∷◌, ◌++◌, length, take, drop, ℤ, sym, refl, ap, ◌∙◌, subst, ap₂, arith, eq-eqb, le-leb}
+use Rattle.std.proofs.Common.{
+  ◌≡◌,
+  ℕ,
+  zero,
+  suc,
+  ◌*◌,
+  ◌<◌,
+  ◌≤◌,
+  true,
+  false,
+  ◌&&◌,
+  leb,
+  List,
+  [],
+  ◌∷◌,
+  ◌++◌,
+  length,
+  take,
+  drop,
+  ℤ,
+  sym,
+  refl,
+  ap,
+  ◌∙◌,
+  ap₂,
+  arith,
+  eq-eqb,
+  le-leb,
+}
 use borrow.Author.Tests.{lt-leb}
 use Rattle.algebra.specs.Buffers.{over}
 use Rattle.algebra.proofs.Filling.{over_ext, over-long}

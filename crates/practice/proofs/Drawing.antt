@@ -4,15 +4,44 @@
 --     reading_small               a reading that is drawn is an i32
 --     knows, drawn, true-sum      of an accepted practice
 -- Assumes nothing.
-use Rattle.std.proofs.Common.{◌≡◌, ℕ, zero, suc, ◌+◌, ◌*◌, ◌^◌, ◌<◌, ◌≤◌, List, length, get_or, ℤ, pos, ◌+ℤ◌, ◌-ℤ◌, ◌*ℤ◌, nat_abs, sym, refl, ap, ◌∙◌, ap₂, le_trans, lt_of_le_of_lt, arith, lit<, w32, SFits}
+use Rattle.std.proofs.Common.{
+  ◌≡◌,
+  ℕ,
+  zero,
+  suc,
+  ◌+◌,
+  ◌*◌,
+  ◌^◌,
+  ◌<◌,
+  ◌≤◌,
+  List,
+  length,
+  get_or,
+  ℤ,
+  pos,
+  ◌+ℤ◌,
+  ◌-ℤ◌,
+  ◌*ℤ◌,
+  nat_abs,
+  sym,
+  refl,
+  ap,
+  ◌∙◌,
+  le_trans,
+  lt_of_le_of_lt,
+  arith,
+  lit<,
+  w32,
+  SFits,
+}
 use native.Mathlib.Numerals.{unary_clauses}
 use Rattle.algebra.specs.Ranges.{sum}
 use Rattle.algebra.proofs.Bounds.{mag_abs, abs_between, abs-+, abs-*-le, abs_sum}
 use Rattle.algebra.proofs.Solver.{◌⊗◌, ◌⊝◌, #, ◌≐◌, ring₂}
-use Rattle.algebra.proofs.Sums.{sum-none, sum_more, sum_cong, sum_ext}
+use Rattle.algebra.proofs.Sums.{sum-none, sum_more, sum_ext}
 use Rattle.records.specs.declared.Head.{Head}
 use Rattle.meaning.specs.Design.{objects, blocks}
-use Rattle.meaning.specs.Analysis.{sign, member, restrained, difference}
+use Rattle.meaning.specs.Analysis.{member, restrained}
 use Rattle.meaning.specs.Practice.{step, state, noise, truth, truth_limit, width_limit, practice_reading, true_sum}
 use Rattle.laws.proofs.Matrix.{difference_signs}
 use Rattle.laws.proofs.Practice.{Practised, noise-most}

@@ -28,7 +28,7 @@ use Rattle.printing.proofs.decimals.put_signed.Reads as put-signed-reads
 use Rattle.printing.specs.contracts.decimals.put_wide as put-wide
 use Rattle.printing.proofs.decimals.put_wide.Kinds as put-wide-kinds
 use Rattle.printing.proofs.decimals.put_wide.Reads as put-wide-reads
-use Rattle.printing.specs.contracts.put_byte as put_byte
+use Rattle.printing.specs.contracts.put_byte as put-byte
 use Rattle.printing.proofs.put_byte.Kinds as put-byte-kinds
 use Rattle.printing.proofs.put_byte.Reads as put-byte-reads
 use Rattle.printing.specs.contracts.put_text as put-text
@@ -107,7 +107,7 @@ module _ (κs : Lfts 1) (a : ArgsD put-wide.signature κs) (r q : ResD put-wide.
   put_wide_determined p e = wrote_determines p e
 
 -- `put_byte`: `out`, the place
-module _ (κs : Lfts 1) (a : ArgsD put_byte.signature κs) (r q : ResD put_byte.signature κs)
+module _ (κs : Lfts 1) (a : ArgsD put-byte.signature κs) (r q : ResD put-byte.signature κs)
     (s t : AtExit (ended_of 1 put-byte-kinds.ps put-byte-kinds.r) κs) where
   pub put_byte_determined : put-byte-reads.Post κs a r s → put-byte-reads.Post κs a q t →
       (s.0.now ≡ t.0.now)

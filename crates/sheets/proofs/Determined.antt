@@ -14,13 +14,13 @@ use Rattle.sheets.proofs.numerals.number.Kinds as number-kinds
 use Rattle.sheets.proofs.numerals.number.Reads as number-reads
 use Rattle.sheets.specs.contracts.numerals.signed as signed
 use Rattle.sheets.proofs.numerals.signed.Kinds as signed-kinds
-use Rattle.sheets.proofs.numerals.signed.Reads as signed-Reads
+use Rattle.sheets.proofs.numerals.signed.Reads as signed-reads
 use Rattle.sheets.specs.contracts.numerals.is_decimal as is-decimal
 use Rattle.sheets.proofs.numerals.is_decimal.Kinds as is-decimal-kinds
 use Rattle.sheets.proofs.numerals.is_decimal.Reads as is-decimal-reads
 use Rattle.sheets.specs.contracts.pieces.same as same
 use Rattle.sheets.proofs.pieces.same.Kinds as same-kinds
-use Rattle.sheets.proofs.pieces.same.Reads as same_Reads
+use Rattle.sheets.proofs.pieces.same.Reads as same-reads
 use Rattle.sheets.specs.contracts.sheet.read_sheet as read-sheet
 use Rattle.sheets.proofs.sheet.read_sheet.Kinds as read-sheet-kinds
 use Rattle.sheets.proofs.sheet.read_sheet.Reads as read-sheet-reads
@@ -42,7 +42,7 @@ module _ (κs : Lfts 1) (a : ArgsD number.signature κs) (r q : ResD number.sign
 -- `signed`: the answer
 module _ (κs : Lfts 1) (a : ArgsD signed.signature κs) (r q : ResD signed.signature κs)
     (s t : AtExit (ended_of 1 signed-kinds.ps signed-kinds.r) κs) where
-  pub signed_determined : signed-Reads.Post κs a r s → signed-Reads.Post κs a q t →
+  pub signed_determined : signed-reads.Post κs a r s → signed-reads.Post κs a q t →
       r ≡ q
   signed_determined p e = p ∙ sym e
 
@@ -56,7 +56,7 @@ module _ (κs : Lfts 1) (a : ArgsD is-decimal.signature κs) (r q : ResD is-deci
 -- `same`: the answer
 module _ (κs : Lfts 2) (a : ArgsD same.signature κs) (r q : ResD same.signature κs)
     (s t : AtExit (ended_of 2 same-kinds.ps same-kinds.r) κs) where
-  pub same_determined : same_Reads.Post κs a r s → same_Reads.Post κs a q t →
+  pub same_determined : same-reads.Post κs a r s → same-reads.Post κs a q t →
       r ≡ q
   same_determined p e = p ∙ sym e
 

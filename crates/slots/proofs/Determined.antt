@@ -54,13 +54,13 @@ use Rattle.slots.proofs.jobs.lay_spread.Reads as lay-spread-reads
 use Rattle.slots.specs.contracts.jobs.lay_solved as lay-solved
 use Rattle.slots.proofs.jobs.lay_solved.Kinds as lay-solved-kinds
 use Rattle.slots.proofs.jobs.lay_solved.Reads as lay-solved-reads
-use Rattle.slots.specs.contracts.pools.told_at as told_at
+use Rattle.slots.specs.contracts.pools.told_at as told-at
 use Rattle.slots.proofs.pools.told_at.Kinds as told-at-kinds
 use Rattle.slots.proofs.pools.told_at.Reads as told-at-reads
 use Rattle.slots.specs.contracts.pools.lay_pooled as lay-pooled
 use Rattle.slots.proofs.pools.lay_pooled.Kinds as lay-pooled-kinds
 use Rattle.slots.proofs.pools.lay_pooled.Reads as lay-pooled-reads
-use Rattle.slots.specs.contracts.rooms.with_room as with_room
+use Rattle.slots.specs.contracts.rooms.with_room as with-room
 use Rattle.slots.proofs.rooms.with_room.Kinds as with-room-kinds
 use Rattle.slots.proofs.rooms.with_room.Reads as with-room-reads
 use Rattle.slots.specs.contracts.rooms.solved_room as solved-room
@@ -210,7 +210,7 @@ module _ (κs : Lfts 2) (a : ArgsD lay-solved.signature κs) (r q : ResD lay-sol
   lay_solved_determined p e = (p.0 ∙ sym e.0, p.1.0 ∙ sym e.1.0, p.1.1 ∙ sym e.1.1)
 
 -- `told_at`: the answer
-module _ (κs : Lfts 0) (a : ArgsD told_at.signature κs) (r q : ResD told_at.signature κs)
+module _ (κs : Lfts 0) (a : ArgsD told-at.signature κs) (r q : ResD told-at.signature κs)
     (s t : AtExit (ended_of 0 told-at-kinds.ps told-at-kinds.r) κs) where
   pub told_at_determined : told-at-reads.Post κs a r s → told-at-reads.Post κs a q t →
       r ≡ q
@@ -226,7 +226,7 @@ module _ (κs : Lfts 2) (a : ArgsD lay-pooled.signature κs) (r q : ResD lay-poo
   lay_pooled_determined p e = (p.0 ∙ sym e.0, p.1.0 ∙ sym e.1.0, p.1.1 ∙ sym e.1.1)
 
 -- `with_room`: the answer
-module _ (κs : Lfts 0) (a : ArgsD with_room.signature κs) (r q : ResD with_room.signature κs)
+module _ (κs : Lfts 0) (a : ArgsD with-room.signature κs) (r q : ResD with-room.signature κs)
     (s t : AtExit (ended_of 0 with-room-kinds.ps with-room-kinds.r) κs) where
   pub with_room_determined : with-room-reads.Post κs a r s → with-room-reads.Post κs a q t →
       r ≡ q

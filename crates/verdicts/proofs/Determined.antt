@@ -11,7 +11,7 @@ use Rattle.verdicts.proofs.is_refused.Kinds as is-refused-kinds
 use Rattle.verdicts.proofs.is_refused.Reads as is-refused-reads
 use Rattle.verdicts.specs.contracts.first as first
 use Rattle.verdicts.proofs.first.Kinds as first-kinds
-use Rattle.verdicts.proofs.first.Reads as first_reads
+use Rattle.verdicts.proofs.first.Reads as first-reads
 use Rattle.verdicts.specs.contracts.no_judgement as no-judgement
 use Rattle.verdicts.proofs.no_judgement.Kinds as no-judgement-kinds
 use Rattle.verdicts.proofs.no_judgement.Reads as no-judgement-reads
@@ -24,10 +24,10 @@ use Rattle.verdicts.proofs.no_total.Reads as no-total-reads
 use Rattle.verdicts.specs.contracts.no_sum as no-sum
 use Rattle.verdicts.proofs.no_sum.Kinds as no-sum-kinds
 use Rattle.verdicts.proofs.no_sum.Reads as no-sum-reads
-use Rattle.verdicts.specs.contracts.no_value as no_value
+use Rattle.verdicts.specs.contracts.no_value as no-value
 use Rattle.verdicts.proofs.no_value.Kinds as no-value-kinds
 use Rattle.verdicts.proofs.no_value.Reads as no-value-reads
-use Rattle.verdicts.specs.contracts.no_deviation as no_deviation_lem
+use Rattle.verdicts.specs.contracts.no_deviation as no-deviation
 use Rattle.verdicts.proofs.no_deviation.Kinds as no-deviation-kinds
 use Rattle.verdicts.proofs.no_deviation.Reads as no-deviation-reads
 use Rattle.verdicts.specs.contracts.no_job as no-job
@@ -44,7 +44,7 @@ module _ (κs : Lfts 0) (a : ArgsD is-refused.signature κs) (r q : ResD is-refu
 -- `first`: the answer
 module _ (κs : Lfts 0) (a : ArgsD first.signature κs) (r q : ResD first.signature κs)
     (s t : AtExit (ended_of 0 first-kinds.ps first-kinds.r) κs) where
-  pub first_determined : first_reads.Post κs a r s → first_reads.Post κs a q t →
+  pub first_determined : first-reads.Post κs a r s → first-reads.Post κs a q t →
       r ≡ q
   first_determined p e = p ∙ sym e
 
@@ -77,14 +77,14 @@ module _ (κs : Lfts 0) (a : ArgsD no-sum.signature κs) (r q : ResD no-sum.sign
   no_sum_determined p e = p ∙ sym e
 
 -- `no_value`: the answer
-module _ (κs : Lfts 0) (a : ArgsD no_value.signature κs) (r q : ResD no_value.signature κs)
+module _ (κs : Lfts 0) (a : ArgsD no-value.signature κs) (r q : ResD no-value.signature κs)
     (s t : AtExit (ended_of 0 no-value-kinds.ps no-value-kinds.r) κs) where
   pub no_value_determined : no-value-reads.Post κs a r s → no-value-reads.Post κs a q t →
       r ≡ q
   no_value_determined p e = p ∙ sym e
 
 -- `no_deviation`: the answer
-module _ (κs : Lfts 0) (a : ArgsD no_deviation_lem.signature κs) (r q : ResD no_deviation_lem.signature κs)
+module _ (κs : Lfts 0) (a : ArgsD no-deviation.signature κs) (r q : ResD no-deviation.signature κs)
     (s t : AtExit (ended_of 0 no-deviation-kinds.ps no-deviation-kinds.r) κs) where
   pub no_deviation_determined : no-deviation-reads.Post κs a r s → no-deviation-reads.Post κs a q t →
       r ≡ q

@@ -18,7 +18,7 @@ use Rattle.weighing.proofs.readings.blocks_refusal.Reads as blocks-refusal-reads
 use Rattle.weighing.specs.contracts.readings.reach_refusal as reach-refusal
 use Rattle.weighing.proofs.readings.reach_refusal.Kinds as reach-refusal-kinds
 use Rattle.weighing.proofs.readings.reach_refusal.Reads as reach-refusal-reads
-use Rattle.weighing.specs.contracts.squares.sum_of_squares as sum_of_squares
+use Rattle.weighing.specs.contracts.squares.sum_of_squares as sum-of-squares
 use Rattle.weighing.proofs.squares.sum_of_squares.Kinds as sum-of-squares-kinds
 use Rattle.weighing.proofs.squares.sum_of_squares.Reads as sum-of-squares-reads
 use Rattle.weighing.specs.contracts.totals.total as total
@@ -58,7 +58,7 @@ module _ (κs : Lfts 1) (a : ArgsD reach-refusal.signature κs) (r q : ResD reac
   reach_refusal_determined p e = p ∙ sym e
 
 -- `sum_of_squares`: the answer
-module _ (κs : Lfts 1) (a : ArgsD sum_of_squares.signature κs) (r q : ResD sum_of_squares.signature κs)
+module _ (κs : Lfts 1) (a : ArgsD sum-of-squares.signature κs) (r q : ResD sum-of-squares.signature κs)
     (s t : AtExit (ended_of 1 sum-of-squares-kinds.ps sum-of-squares-kinds.r) κs) where
   pub sum_of_squares_determined : sum-of-squares-reads.Post κs a r s → sum-of-squares-reads.Post κs a q t →
       r ≡ q

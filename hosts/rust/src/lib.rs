@@ -1,5 +1,5 @@
 //! The mass bench for Rust: safe calls of the proved static library. The proved functions take every input, so no call here can fail but by a [`Refusal`].
-//! What each answers is proved for the archive that `rt staticlib api` writes, for x86-64. What this crate adds is not proved: the lines of [`calls`], with the
+//! What each answers is proved for the archive that tools/host-archive builds, for x86-64. What this crate adds is not proved: the lines of [`calls`], with the
 //! one `unsafe` of the crate, lend slices to the archive; the functions here hand back what it lays into them.
 //!
 //! Example A of the request: five objects in five blocks, objects 0 and 1 restrained to 7 counts together.

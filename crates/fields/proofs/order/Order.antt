@@ -70,7 +70,8 @@ module _ (s : List ℕ) where
       by_verdict : (v : Verdict) → field_verdict s at tag (body_length (head_of s) tag) ≡ v → led (suc k) tag at ≡ v ⨾ rest
       by_verdict Accepted f =
           ap (λ (w : Verdict). w ⨾ cond (eqb tag 1) (sizes (head_of s)) accepted ⨾ led k (tag + 1) (goes tag at)) (answer-says s at tag _ ∙ f)
-          ∙ ap (λ (b : Bool). cond b (sizes (head_of s)) accepted ⨾ led k (tag + 1) (goes tag at)) late ∙ ap (λ (p : ℕ). led k (tag + 1) p) (passes tag at f) ∙ e
+          ∙ ap (λ (b : Bool). cond b (sizes (head_of s)) accepted ⨾ led k (tag + 1) (goes tag at)) late
+          ∙ ap (λ (p : ℕ). led k (tag + 1) p) (passes tag at f) ∙ e
       by_verdict (Refused n p) f = ap (λ (w : Verdict). w ⨾ cond (eqb tag 1) (sizes (head_of s)) accepted ⨾ led k (tag + 1) (goes tag at))
           (answer-says s at tag _ ∙ f)
 

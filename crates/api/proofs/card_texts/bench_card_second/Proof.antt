@@ -10,22 +10,20 @@ use Rattle.api.proofs.card_texts.Slot.{call, none, one}
 use Rattle.api.proofs.card_texts.bench_card_second.Statement.{statement}
 use Rattle.api.proofs.card_texts.bench_card_second.Tie as tie
 
-returns : tie.Need-returns
+returns : tie.Need-returns-then-answer-eq0
 returns c =
-    let a = c.before.before.before.before.before.args in
+    let a = c.args in
     let text = card_text_of2 a.bytes.now in
     let e = none text a.out.now a.answer.now (omega arith) in
     let said : c.told.result ≡ told (refused 10 0) = search c.told.ensures in
     let refused = stays (call text a.out.now a.answer.now) accepted _ _ e in
     (said ∙ ap told (sym e), (refused, stays (call text a.out.now a.answer.now) accepted _ _ e))
 
-returns-2 : tie.Need-returns-2
+returns-2 : tie.Need-returns
 returns-2 c =
-    let laid = c.before.before in
-    let put = laid.before.before.before.before in
-    let a = put.before.before.before.before.before.before.args in
-    let given = put.card_of_second.ensures in
-    let handed = rw given.0 at laid.lay-listed.ensures in
+    let a = c.args in
+    let given = c.card_of_second.ensures in
+    let handed = rw given.0 at c.lay_listed.ensures in
     (search handed.0, (given.1 ∙ one (card_text_of2 a.bytes.now) a.out.now a.answer.now (omega arith), search handed.1))
 
 pub bench_card_second_spec : {M : Type 1} → statement M

@@ -38,21 +38,21 @@ module _ (s : tie.Start) where
       given-twice file.verdict _ s.args.out.now
       ∙ ap (λ (v : Verdict). given v left s.args.out.now) (sym (listed_enough file s.args.answer.now l))
 
-returns : tie.Need-returns
+returns : tie.Need-returns-then-answer-lt1
 returns c =
     let s = c.before.before.before.before.before in
-    let e = none s c.before.if1.true in
+    let e = none s c.if-answer-lt1.true in
     let said : c.told.result ≡ told (refused 10 0) = search c.told.ensures in
     (said ∙ ap told (sym e), (stays (call s) accepted _ _ e, stays (call s) accepted _ _ e))
 
-returns-2 : tie.Need-returns-2
+returns-2 : tie.Need-returns
 returns-2 c =
     let laid = c.before.before in
     let certified = laid.before.before.before.before in
     let s = certified.before.before.before.before.before.before in
-    let given = certified.certificate-second.ensures in
-    let handed = rw given.0 at laid.lay-listed.ensures in
-    (search handed.0, (given.1 ∙ one s certified.before.before.if1.false, search handed.1))
+    let given = certified.certificate_second.ensures in
+    let handed = rw given.0 at laid.lay_listed.ensures in
+    (search handed.0, (given.1 ∙ one s certified.if-answer-lt1.false, search handed.1))
 
 pub bench_certificate_second_spec : {M : Type 1} → statement M
 bench_certificate_second_spec =

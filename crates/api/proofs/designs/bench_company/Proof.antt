@@ -5,9 +5,7 @@ use Rattle.api.proofs.designs.bench_company.Tie as tie
 
 returns : tie.Need-returns
 returns c =
-    let laid = c.before.before in
-    let counted = laid.before.before.before in
-    search (rw (counted.before.pairs-refusal.ensures, counted.company.ensures) at laid.lay-table.ensures)
+    search (rw (c.pairs_refusal-tested.ensures, c.company-counted.ensures) at c.lay_table.ensures)
 
 pub bench_company_spec : {M : Type 1} → statement M
 bench_company_spec = tie.close (tie.spec (λ c κs. tt) (λ c κs. tt) (λ c κs. tt) (λ c. search rules) returns)

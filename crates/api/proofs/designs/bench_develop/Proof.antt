@@ -5,8 +5,7 @@ use Rattle.api.proofs.designs.bench_develop.Tie as tie
 
 returns : tie.Need-returns
 returns c =
-    let develop = c.before.before.before in
-    (search (rw develop.develop.ensures.0 at c.told.ensures), search develop.develop.ensures.1)
+    (search (rw c.develop.ensures.0 at c.told.ensures), search c.develop.ensures.1)
 
 pub bench_develop_spec : {M : Type 1} → statement M
 bench_develop_spec = tie.close (tie.spec (λ c κs. tt) (λ c κs. tt) (λ c. search rules) returns)

@@ -5,8 +5,7 @@ use Rattle.api.proofs.designs.bench_develop_initial.Tie as tie
 
 returns : tie.Need-returns
 returns c =
-    let develop-initial = c.before.before.before in
-    (search (rw develop-initial.develop-initial.ensures.0 at c.told.ensures), search develop-initial.develop-initial.ensures.1)
+    (search (rw c.develop_initial.ensures.0 at c.told.ensures), search c.develop_initial.ensures.1)
 
 pub bench_develop_initial_spec : {M : Type 1} → statement M
 bench_develop_initial_spec = tie.close (tie.spec (λ c κs. tt) (λ c κs. tt) (λ c. search rules) returns)

@@ -5,9 +5,7 @@ use Rattle.api.proofs.designs.bench_opposition.Tie as tie
 
 returns : tie.Need-returns
 returns c =
-    let laid = c.before.before in
-    let counted = laid.before.before.before in
-    search (rw (counted.before.pairs-refusal.ensures, counted.opposition.ensures) at laid.lay-table.ensures)
+    search (rw (c.pairs_refusal-tested.ensures, c.opposition-counted.ensures) at c.lay_table.ensures)
 
 pub bench_opposition_spec : {M : Type 1} → statement M
 bench_opposition_spec = tie.close (tie.spec (λ c κs. tt) (λ c κs. tt) (λ c κs. tt) (λ c. search rules) returns)

@@ -4,8 +4,7 @@ use Rattle.api.proofs.designs.bench_pairs_refusal.Tie as tie
 
 returns : tie.Need-returns
 returns c =
-    let pairs-refusal = c.before in
-    search (rw pairs-refusal.pairs-refusal.ensures at c.told.ensures)
+    search (rw c.pairs_refusal.ensures at c.told.ensures)
 
 pub bench_pairs_refusal_spec : {M : Type 1} → statement M
 bench_pairs_refusal_spec = tie.close (tie.spec (λ c κs. tt) (λ c κs. tt) returns)

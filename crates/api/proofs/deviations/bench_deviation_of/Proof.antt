@@ -5,9 +5,7 @@ use Rattle.api.proofs.deviations.bench_deviation_of.Tie as tie
 
 returns : tie.Need-returns
 returns c =
-    let laid = c.before.before.before in
-    let deviation_of_lem = laid.before.before.before in
-    search (rw deviation_of_lem.deviation_of_lem.ensures at laid.lay-deviation.ensures)
+    search (rw c.deviation_of.ensures at c.lay_deviation.ensures)
 
 pub bench_deviation_of_spec : {M : Type 1} → statement M
 bench_deviation_of_spec = tie.close (tie.spec (λ c κs. tt) (λ c κs. tt) (λ c. search rules) (λ c. search rules) returns)

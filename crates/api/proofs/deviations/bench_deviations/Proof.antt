@@ -5,8 +5,7 @@ use Rattle.api.proofs.deviations.bench_deviations.Tie as tie
 
 returns : tie.Need-returns
 returns c =
-    let deviations = c.before.before in
-    (search (rw deviations.deviations.ensures.0 at c.told.ensures), search deviations.deviations.ensures.1)
+    (search (rw c.deviations.ensures.0 at c.told.ensures), search c.deviations.ensures.1)
 
 pub bench_deviations_spec : {M : Type 1} → statement M
 bench_deviations_spec = tie.close (tie.spec (λ c κs. tt) (λ c κs. tt) (λ c. search rules) returns)

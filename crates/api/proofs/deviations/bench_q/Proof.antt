@@ -5,9 +5,7 @@ use Rattle.api.proofs.deviations.bench_q.Tie as tie
 
 returns : tie.Need-returns
 returns c =
-    let laid = c.before.before in
-    let q = laid.before.before in
-    search (rw q.q.ensures at laid.lay-sum.ensures)
+    search (rw c.q.ensures at c.lay_sum.ensures)
 
 pub bench_q_spec : {M : Type 1} → statement M
 bench_q_spec = tie.close (tie.spec (λ c κs. tt) (λ c κs. tt) (λ c. search rules) returns)

@@ -5,9 +5,7 @@ use Rattle.api.proofs.deviations.bench_spread.Tie as tie
 
 returns : tie.Need-returns
 returns c =
-    let laid = c.before.before.before.before in
-    let spread = laid.before.before.before in
-    search (rw spread.spread.ensures at laid.lay-spread.ensures)
+    search (rw c.spread.ensures at c.lay_spread.ensures)
 
 pub bench_spread_spec : {M : Type 1} → statement M
 bench_spread_spec = tie.close (tie.spec (λ c κs. tt) (λ c κs. tt) (λ c. search rules) (λ c. search rules) returns)

@@ -5,9 +5,7 @@ use Rattle.api.proofs.files.bench_field_at.Tie as tie
 
 returns : tie.Need-returns
 returns c =
-    let laid = c.before.before in
-    let field_at = laid.before.before in
-    search (rw field_at.field_at.ensures at laid.lay-field.ensures)
+    search (rw c.field_at.ensures at c.lay_field.ensures)
 
 pub bench_field_at_spec : {M : Type 1} → statement M
 bench_field_at_spec = tie.close (tie.spec (λ c κs. tt) (λ c κs. tt) (λ c. search rules) returns)

@@ -38,21 +38,21 @@ module _ (s : tie.Start) where
       given-twice file.verdict _ s.args.out.now
       ∙ ap (λ (v : Verdict). given v left s.args.out.now) (sym (listed_enough file s.args.answer.now l))
 
-returns : tie.Need-returns
+returns : tie.Need-returns-then-answer-lt1
 returns c =
     let s = c.before.before.before.before.before in
-    let e = none s c.before.if1.true in
+    let e = none s c.if-answer-lt1.true in
     let said : c.told.result ≡ told (refused 10 0) = search c.told.ensures in
     (said ∙ ap told (sym e), (stays (call s) accepted _ _ e, stays (call s) accepted _ _ e))
 
-returns-2 : tie.Need-returns-2
+returns-2 : tie.Need-returns
 returns-2 c =
     let laid = c.before.before in
     let listing = laid.before.before.before.before in
     let s = listing.before.before.before.before.before.before in
     let given = listing.listing.ensures in
-    let handed = rw given.0 at laid.lay-listed.ensures in
-    (search handed.0, (given.1 ∙ one s listing.before.before.if1.false, search handed.1))
+    let handed = rw given.0 at laid.lay_listed.ensures in
+    (search handed.0, (given.1 ∙ one s listing.if-answer-lt1.false, search handed.1))
 
 pub bench_listing_spec : {M : Type 1} → statement M
 bench_listing_spec =

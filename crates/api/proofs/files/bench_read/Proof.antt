@@ -5,9 +5,7 @@ use Rattle.api.proofs.files.bench_read.Tie as tie
 
 returns : tie.Need-returns
 returns c =
-    let laid = c.before.before.before in
-    let read = laid.before.before.before in
-    search (rw read.read.ensures at laid.lay-read.ensures)
+    search (rw c.read.ensures at c.lay_read.ensures)
 
 pub bench_read_spec : {M : Type 1} → statement M
 bench_read_spec = tie.close (tie.spec (λ c κs. tt) (λ c κs. tt) (λ c. search rules) (λ c. search rules) returns)

@@ -19,12 +19,12 @@ module _ (s : tie.Start) where
   abbrev d : List ℕ
   d = s.args.blocks.now
 
-returns : tie.Need-returns
+returns : tie.Need-returns-then-answer-lt8
 returns c =
     let direct = c.before.before in
     let s = direct.before.before.before.before.before.before in
-    let few = direct.before.before.if1.true in
-    let said-one = ap (λ (w : GroupedSet). w.verdict) direct.group-base.ensures.0
+    let few = direct.if-answer-lt8.true in
+    let said-one = ap (λ (w : GroupedSet). w.verdict) direct.group_base-tested.ensures.0
     ∙ sym (few_slots (head s) (d s) s.args.g s.args.words.now s.args.answer.now few) in
     let said = rw said-one at c.told.ensures in (
       search said,
@@ -34,14 +34,14 @@ returns c =
       ),
     )
 
-returns-2 : tie.Need-returns-2
+returns-2 : tie.Need-returns
 returns-2 c =
     let laid = c.before.before in
     let made = laid.before.before.before.before in
     let s = made.before.before.before.before.before.before in
-    let given = made.group-base2.ensures in
-    let handed = rw given.0 at laid.lay-group-set.ensures in
-    let left = enough_words (head s) (d s) s.args.g s.args.words.now s.args.answer.now made.before.before.if1.false in
+    let given = made.group_base.ensures in
+    let handed = rw given.0 at laid.lay_group_set.ensures in
+    let left = enough_words (head s) (d s) s.args.g s.args.words.now s.args.answer.now made.if-answer-lt8.false in
     (search handed.0, (given.1 ∙ left, search handed.1))
 
 pub bench_group_base_spec : {M : Type 1} → statement M

@@ -5,9 +5,7 @@ use Rattle.api.proofs.grouped_sets.bench_grouped.Tie as tie
 
 returns : tie.Need-returns
 returns c =
-    let laid = c.before.before in
-    let judged = laid.before.before in
-    search (rw judged.grouped.ensures at laid.lay-grouped.ensures)
+    search (rw c.grouped.ensures at c.lay_grouped.ensures)
 
 pub bench_grouped_spec : {M : Type 1} → statement M
 bench_grouped_spec = tie.close (tie.spec (λ c κs. tt) (λ c κs. tt) (λ c. search rules) returns)

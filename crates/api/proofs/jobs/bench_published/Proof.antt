@@ -6,8 +6,7 @@ use Rattle.api.proofs.jobs.bench_published.Tie as tie
 
 returns : tie.Need-returns
 returns c =
-    let column = c.before.before in
-    let given = rw (to_z-of_z column.before.before.before.ranges.sum) at column.published.ensures in
+    let given = rw (to_z-of_z c.ranges.sum) at c.published.ensures in
     (search (rw given.0 at c.told.ensures), search given.1)
 
 pub bench_published_spec : {M : Type 1} → statement M

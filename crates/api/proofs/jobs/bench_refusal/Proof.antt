@@ -5,8 +5,7 @@ use Rattle.api.proofs.jobs.bench_refusal.Tie as tie
 
 returns : tie.Need-returns
 returns c =
-    let refusal = c.before in
-    let given = rw (to_z-of_z refusal.before.before.ranges.sum) at refusal.refusal.ensures in
+    let given = rw (to_z-of_z c.ranges.sum) at c.refusal.ensures in
     search (rw (given) at c.told.ensures)
 
 pub bench_refusal_spec : {M : Type 1} → statement M

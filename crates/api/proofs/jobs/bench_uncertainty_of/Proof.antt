@@ -6,10 +6,8 @@ use Rattle.api.proofs.jobs.bench_uncertainty_of.Tie as tie
 
 returns : tie.Need-returns
 returns c =
-    let laid = c.before.before.before.before in
-    let uncertainty-of = laid.before.before.before in
-    let given = rw (to_z-of_z uncertainty-of.before.before.before.before.ranges.sum) at uncertainty-of.uncertainty-of.ensures in
-    search (rw given at laid.lay-uncertainty.ensures)
+    let given = rw (to_z-of_z c.ranges.sum) at c.uncertainty_of.ensures in
+    search (rw given at c.lay_uncertainty.ensures)
 
 pub bench_uncertainty_of_spec : {M : Type 1} → statement M
 bench_uncertainty_of_spec = tie.close (tie.spec (λ c κs. tt) (λ c κs. tt) (λ c. search rules) (λ c. search rules) returns)

@@ -6,10 +6,8 @@ use Rattle.api.proofs.jobs.bench_value_of.Tie as tie
 
 returns : tie.Need-returns
 returns c =
-    let laid = c.before.before.before.before.before in
-    let value_of_lem = laid.before.before.before.before in
-    let given = rw (to_z-of_z value_of_lem.before.before.before.before.ranges.sum) at value_of_lem.value_of_lem.ensures in
-    search (rw given at laid.lay-value.ensures)
+    let given = rw (to_z-of_z c.ranges.sum) at c.value_of.ensures in
+    search (rw given at c.lay_value.ensures)
 
 pub bench_value_of_spec : {M : Type 1} → statement M
 bench_value_of_spec =

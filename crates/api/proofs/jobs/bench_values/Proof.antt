@@ -6,8 +6,7 @@ use Rattle.api.proofs.jobs.bench_values.Tie as tie
 
 returns : tie.Need-returns
 returns c =
-    let values = c.before.before in
-    let given = rw (to_z-of_z values.before.before.before.ranges.sum) at values.values.ensures in
+    let given = rw (to_z-of_z c.ranges.sum) at c.values.ensures in
     (search (rw given.0 at c.told.ensures), search given.1)
 
 pub bench_values_spec : {M : Type 1} → statement M

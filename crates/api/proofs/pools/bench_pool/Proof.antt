@@ -5,9 +5,7 @@ use Rattle.api.proofs.pools.bench_pool.Tie as tie
 
 returns : tie.Need-returns
 returns c =
-    let laid = c.before.before.before.before in
-    let pool = laid.before.before.before in
-    search (rw pool.pool.ensures at laid.lay-pooled.ensures)
+    search (rw c.pool.ensures at c.lay_pooled.ensures)
 
 pub bench_pool_spec : {M : Type 1} → statement M
 bench_pool_spec = tie.close (tie.spec (λ c κs. tt) (λ c κs. tt) (λ c. search rules) (λ c. search rules) returns)

@@ -5,8 +5,7 @@ use Rattle.api.proofs.practising.bench_practice.Tie as tie
 
 returns : tie.Need-returns
 returns c =
-    let practice = c.before.before in
-    (search (rw practice.practice.ensures.0 at c.told.ensures), search practice.practice.ensures.1)
+    (search (rw c.practice.ensures.0 at c.told.ensures), search c.practice.ensures.1)
 
 pub bench_practice_spec : {M : Type 1} → statement M
 bench_practice_spec = tie.close (tie.spec (λ c κs. tt) (λ c κs. tt) (λ c. search rules) returns)

@@ -56,23 +56,23 @@ module _ (s : tie.Start) where
       given-twice file.verdict _ s.args.out.now
       ∙ ap (λ (v : Verdict). given v left s.args.out.now) (sym (written_enough file s.args.answer.now l))
 
-returns : tie.Need-returns
+returns : tie.Need-returns-then-answer-lt1
 returns c =
     let direct = c.before.before in
     let s = direct.before.before.before.before.before.before in
-    let e = none s direct.before.before.if1.true in
-    let said-one = ap (λ (w : JobWritten). w.verdict) direct.practice-file.ensures.0 ∙ tested s in
+    let e = none s direct.if-answer-lt1.true in
+    let said-one = ap (λ (w : JobWritten). w.verdict) direct.practice_file-tested.ensures.0 ∙ tested s in
     let said = rw (said-one, ← e) at c.told.ensures in
     (search said, (stays (call s) (tests s) _ _ e, stays (call s) (tests s) _ _ e))
 
-returns-2 : tie.Need-returns-2
+returns-2 : tie.Need-returns
 returns-2 c =
     let laid = c.before.before in
     let write = laid.before.before.before.before in
     let s = write.before.before.before.before.before.before in
-    let given = write.practice-file2.ensures in
-    let handed = rw given.0 at laid.lay-written.ensures in
-    (search handed.0, (given.1 ∙ one s write.before.before.if1.false, search handed.1))
+    let given = write.practice_file.ensures in
+    let handed = rw given.0 at laid.lay_written.ensures in
+    (search handed.0, (given.1 ∙ one s write.if-answer-lt1.false, search handed.1))
 
 pub bench_practice_file_spec : {M : Type 1} → statement M
 bench_practice_file_spec =

@@ -5,9 +5,7 @@ use Rattle.api.proofs.second.bench_read_second.Tie as tie
 
 returns : tie.Need-returns
 returns c =
-    let laid = c.before.before.before in
-    let read = laid.before.before.before in
-    search (rw read.read-second.ensures at laid.lay-second.ensures)
+    search (rw c.read_second.ensures at c.lay_second.ensures)
 
 pub bench_read_second_spec : {M : Type 1} → statement M
 bench_read_second_spec = tie.close (tie.spec (λ c κs. tt) (λ c κs. tt) (λ c. search rules) (λ c. search rules) returns)

@@ -37,37 +37,32 @@ module _ (s : tie.Start) where
       (length s.args.words.now) (length s.args.values.now) (length s.args.deviations.now) refl e
 
 -- what the slots say
-module _ (c : tie.After-is-refused) where
+module _ (c : tie.After-is_refused) where
   abbrev start : tie.Start
   start = c.before.before.before.before.before.before
 
-  slots : c.is-refused.result ≡ given (solved_room (length start.args.answer.now) (length start.args.real.now)) false true
-  slots = search (rw c.before.solved-room.ensures at c.is-refused.ensures)
+  slots : c.is_refused.result ≡ given (solved_room (length start.args.answer.now) (length start.args.real.now)) false true
+  slots = search (rw c.solved_room-slotted.ensures at c.is_refused.ensures)
 
-returns : tie.Need-returns
+returns : tie.Need-returns-then-is_refused
 returns c =
-    let read = c.before.before.before in
-    let tested = read.before.before in
-    let s = start tested in
+    let s = start c.before.before.before.before.before in
     let u = call s in
     let t = read_verdict2 (file s) in
-    let e = few s (sym (slots tested) ∙ read.before.if1.true) in
-    let given = ap (λ (j : SecondRead). j.job.verdict) read.read-second.ensures in (
-      search (rw (c.before.with_room.ensures, given, ← e) at c.told.ensures),
+    let e = few s (sym (slots c.before.before.before.before.before) ∙ c.if-is_refused.true) in
+    let given = ap (λ (j : SecondRead). j.job.verdict) c.read_second-found.ensures in (
+      search (rw (c.with_room.ensures, given, ← e) at c.told.ensures),
       (stays u t _ _ e, (stays u t _ _ e, (stays u t _ _ e, (stays u t _ _ e, stays u t _ _ e)))),
     )
 
-returns-2 : tie.Need-returns-2
+returns-2 : tie.Need-returns
 returns-2 c =
-    let laid = c.before.before.before.before in
-    let solve = laid.before.before.before.before.before.before.before in
-    let tested = solve.before.before.before.before.before in
-    let s = start tested in
+    let s = start c.before.before.before.before.before.before.before.before.before.before.before.before.before.before.before.before in
     let f = four_of (file s) in
-    let enough = sym (slots tested) ∙ solve.before.before.before.before.if1.false in
+    let enough = sym (slots c.before.before.before.before.before.before.before.before.before.before.before.before.before.before.before.before) ∙ c.if-is_refused.false in
     let e = sym (solved_enough (job s) s.args.answer.now s.args.real.now enough) in
-    let given = solve.solve-second.ensures in
-    let handed = rw given.0 at laid.lay-solved.ensures in (
+    let given = c.solve_second.ensures in
+    let handed = rw given.0 at c.lay_solved.ensures in (
       search handed.0,
       (
         given.1.0 ∙ ap (λ (v : Verdict). words_under v (head_of f) (blocks_of f) s.args.words.now) e,

@@ -5,10 +5,8 @@ use Rattle.api.proofs.sheets.bench_check_file.Tie as tie
 
 returns : tie.Need-returns
 returns c =
-    let laid = c.before.before in
-    let check = laid.before.before in
-    let given = rw check.before.claimed-from.ensures at check.check-file.ensures in
-    search (rw given at laid.lay-checked.ensures)
+    let given = rw c.claimed_from-claimed.ensures at c.check_file.ensures in
+    search (rw given at c.lay_checked.ensures)
 
 pub bench_check_file_spec : {M : Type 1} → statement M
 bench_check_file_spec = tie.close (tie.spec (λ c κs. tt) (λ c κs. tt) (λ c κs. tt) (λ c. search rules) returns)

@@ -6,11 +6,8 @@ use Rattle.api.proofs.sheets.bench_check_parts.Tie as tie
 
 returns : tie.Need-returns
 returns c =
-    let laid = c.before.before in
-    let check = laid.before.before in
-    let claimed = check.before in
-    let given = rw (claimed.claimed-from.ensures, to_z-of_z claimed.before.before.before.ranges.sum) at check.check-sheet.ensures in
-    search (rw given at laid.lay-checked.ensures)
+    let given = rw (c.claimed_from-claimed.ensures, to_z-of_z c.ranges.sum) at c.check_sheet.ensures in
+    search (rw given at c.lay_checked.ensures)
 
 pub bench_check_parts_spec : {M : Type 1} → statement M
 bench_check_parts_spec = tie.close (tie.spec (λ c κs. tt) (λ c κs. tt) (λ c κs. tt) (λ c. search rules) returns)

@@ -4,11 +4,11 @@ use borrow.Author.Tests.{eq-eqb, ne_eqb}
 use Rattle.api.proofs.sheets.claimed_from.Statement.{statement}
 use Rattle.api.proofs.sheets.claimed_from.Tie as tie
 
-returns : tie.Need-returns
-returns c = rw (eq-eqb _ _ c.if1.true) (search rules)
+returns : tie.Need-returns-then-has-eq0
+returns c = rw (eq-eqb _ _ c.if-has-eq0.true) (search rules)
 
-returns-2 : tie.Need-returns-2
-returns-2 c = rw (ne_eqb _ _ c.if1.false) (search rules)
+returns-2 : tie.Need-returns
+returns-2 c = rw (ne_eqb _ _ c.if-has-eq0.false) (search rules)
 
 pub claimed_from_spec : {M : Type 1} → statement M
 claimed_from_spec = tie.close (tie.spec returns returns-2)

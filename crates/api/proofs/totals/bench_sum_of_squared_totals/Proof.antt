@@ -5,9 +5,7 @@ use Rattle.api.proofs.totals.bench_sum_of_squared_totals.Tie as tie
 
 returns : tie.Need-returns
 returns c =
-    let laid = c.before.before in
-    let sum-of-squared-totals = laid.before.before in
-    search (rw sum-of-squared-totals.sum-of-squared-totals.ensures at laid.lay-sum.ensures)
+    search (rw c.sum_of_squared_totals.ensures at c.lay_sum.ensures)
 
 pub bench_sum_of_squared_totals_spec : {M : Type 1} → statement M
 bench_sum_of_squared_totals_spec = tie.close (tie.spec (λ c κs. tt) (λ c κs. tt) (λ c. search rules) returns)

@@ -5,9 +5,7 @@ use Rattle.api.proofs.totals.bench_sum_of_squares.Tie as tie
 
 returns : tie.Need-returns
 returns c =
-    let laid = c.before.before in
-    let sum_of_squares = laid.before.before in
-    search (rw sum_of_squares.sum_of_squares.ensures at laid.lay-sum.ensures)
+    search (rw c.sum_of_squares.ensures at c.lay_sum.ensures)
 
 pub bench_sum_of_squares_spec : {M : Type 1} → statement M
 bench_sum_of_squares_spec = tie.close (tie.spec (λ c κs. tt) (λ c κs. tt) (λ c. search rules) returns)

@@ -5,9 +5,7 @@ use Rattle.api.proofs.totals.bench_total.Tie as tie
 
 returns : tie.Need-returns
 returns c =
-    let laid = c.before in
-    let total = laid.before.before in
-    search (rw total.total.ensures at laid.lay-total.ensures)
+    search (rw c.total.ensures at c.lay_total.ensures)
 
 pub bench_total_spec : {M : Type 1} → statement M
 bench_total_spec = tie.close (tie.spec (λ c κs. tt) (λ c κs. tt) (λ c. search rules) returns)

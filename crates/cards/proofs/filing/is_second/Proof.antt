@@ -4,7 +4,7 @@ use Rattle.cards.proofs.filing.is_second.Statement.{statement}
 use Rattle.cards.proofs.filing.is_second.Tie as tie
 
 returns : tie.Need-returns
-returns c = rw c.before.plain-length.ensures (search rules)
+returns c = rw c.plain_length.ensures (search rules)
 
 pub is_second_spec : {M : Type 1} → statement M
 is_second_spec = tie.close (tie.spec (λ c κs. search rules) returns)

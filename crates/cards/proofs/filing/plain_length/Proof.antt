@@ -5,11 +5,9 @@ use Rattle.cards.proofs.filing.Parts.{blocks-few}
 use Rattle.cards.proofs.filing.plain_length.Statement.{statement}
 use Rattle.cards.proofs.filing.plain_length.Tie as tie
 
-add_result : tie.Need-overflow-add-result
+add_result : tie.Need-overflow_add-result
 add_result c =
-    let one = c.before in
-    let s = one.before in
-    omega (arith, one.blocks-length.ensures, blocks-few s.args.card.head s.requires.p s.requires.m, s.requires.readings)
+    omega (arith, c.blocks_length.ensures, blocks-few c.args.card.head c.requires.p c.requires.m, c.requires.readings)
 
 pub plain_length_spec : {M : Type 1} → statement M
 plain_length_spec = tie.close (tie.spec (λ c κs. search rules) (λ c. search rules) add_result (λ c. search rules))

@@ -6,9 +6,7 @@ use Rattle.cards.proofs.filing.put_field.Tie as tie
 
 returns : tie.Need-returns
 returns c =
-    let two = c.before.before in
-    let one = two.before.before.before.before in
-    named (one.put-start.ensures then two.put-text.ensures) (search rules)
+    named (c.put_start-start.ensures then c.put_text.ensures) (search rules)
 
 pub put_field_spec : {M : Type 1} → statement M
 put_field_spec = tie.close (tie.spec (λ c κs. tt) (λ c κs. tt) (λ c. search rules) returns)

@@ -15,45 +15,39 @@ use Rattle.cards.proofs.filing.Parts.{clamp, clamp-inside, others_are, first-is,
 use Rattle.cards.proofs.filing.put_file.Statement.{statement}
 use Rattle.cards.proofs.filing.put_file.Tie as tie
 
-abbrev start : tie.After-is-second → tie.Start
+abbrev start : tie.After-is_second → tie.Start
 start c = c.before.before.before
 
 -- the first edition
-returns : tie.Need-returns
+returns : tie.Need-returns-then-not-is_second
 returns c =
-    let one = c.before.before in
-    let e = one.before.before.before in
-    let a = (start e).args in
-    let first : is_second a.card ≡ false = sym e.is-second.ensures ∙ not-true e.is-second.result one.before.before.if1.true in
-    named one.put-fields.ensures (first-is a.card a.body.now first)
+    let a = (start c.before.before.before.before.before).args in
+    let first : is_second a.card ≡ false = sym c.is_second.ensures ∙ not-true c.is_second.result c.if-not-is_second.true-raw in
+    named c.put_fields.ensures (first-is a.card a.body.now first)
 
 -- where the other fields start
-module _ (c : tie.After-clamped) where
-  abbrev begun : tie.Else1
+module _ (c : tie.After-clamped-others) where
+  abbrev begun : tie.Else-not-is_second
   begun = c.before.before.before.before.before.before.before.before.before.before.before
 
   abbrev body : List ℕ
   body = (start begun.before).args.body.now
 
-  from_is : c.clamped.result ≡ clamp body (list_length (start begun.before).args.card.head + 4 * (start begun.before).args.card.readings)
-  from_is = c.clamped.ensures ∙ ap (clamp body) c.before.plain-length.ensures
+  from_is : c.clamped-others.result ≡ clamp body (list_length (start begun.before).args.card.head + 4 * (start begun.before).args.card.readings)
+  from_is = c.clamped-others.ensures ∙ ap (clamp body) c.plain_length.ensures
 
-  inside : c.clamped.result ≤ length body
+  inside : c.clamped-others.result ≤ length body
   inside = omega (arith, from_is, clamp-inside body (list_length (start begun.before).args.card.head + 4 * (start begun.before).args.card.readings))
 
 -- the second
-returns-2 : tie.Need-returns-2
+returns-2 : tie.Need-returns
 returns-2 c =
-    let three = c.before.before in
-    let from = three.before.before.before in
-    let two = from.before.before.before.before in
-    let one = two.before.before.before.before in
-    let e = begun from in
+    let e = begun c.before.before.before.before.before in
     let a = (start e.before).args in
-    let second : is_second a.card ≡ true = sym e.before.is-second.ensures ∙ not-false e.before.is-second.result e.if1.left in
-    named (one.put-text.ensures then two.put-fields2.ensures then three.put-text2.ensures)
-    (ap (λ (l : List ℕ). edition_field ++ four_fields a.card (body from) ++ l) (others_are a.card (body from) from.clamped.result (from_is from))
-    ∙ second_is a.card (body from) second)
+    let second : is_second a.card ≡ true = sym e.is_second.ensures ∙ not-false e.is_second.result e.if-not-is_second.false-raw in
+    named (c.put_text-start.ensures then c.put_fields-end.ensures then c.put_text.ensures)
+    (ap (λ (l : List ℕ). edition_field ++ four_fields a.card (body c.before.before.before.before.before) ++ l) (others_are a.card (body c.before.before.before.before.before) c.clamped-others.result (from_is c.before.before.before.before.before))
+    ∙ second_is a.card (body c.before.before.before.before.before) second)
 
 pub put_file_spec : {M : Type 1} → statement M
 put_file_spec =

@@ -10,13 +10,13 @@ use borrow.Author.Rules.{rules}
 use Rattle.cards.proofs.hexadecimal.body_length.Statement.{statement}
 use Rattle.cards.proofs.hexadecimal.body_length.Tie as tie
 
-returns : tie.Need-returns
+returns : tie.Need-returns-then-same
 unfolding body_of ascii
-returns c = rw (sym c.before.same.ensures ∙ c.if1.true)
+returns c = rw (sym c.same.ensures ∙ c.if-same.true)
 
-returns-2 : tie.Need-returns-2
+returns-2 : tie.Need-returns
 unfolding body_of ascii
-returns-2 c = rw (sym c.before.same.ensures ∙ c.if1.false, hex_long (length c.before.before.before.before.args.word.now / 2) c.before.before.before.before.args.word.now) (search rules)
+returns-2 c = rw (sym c.same.ensures ∙ c.if-same.false, hex_long (length c.args.word.now / 2) c.args.word.now) (search rules)
 
 pub body_length_spec : {M : Type 1} → statement M
-body_length_spec = tie.close (tie.spec (λ c. search rules) (λ c κs. search rules) returns returns-2)
+body_length_spec = tie.close (tie.spec (λ c κs. search rules) returns returns-2)

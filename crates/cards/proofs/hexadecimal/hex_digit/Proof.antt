@@ -7,23 +7,23 @@ use borrow.Author.Rules.{rules}
 use Rattle.cards.proofs.hexadecimal.hex_digit.Statement.{statement}
 use Rattle.cards.proofs.hexadecimal.hex_digit.Tie as tie
 
-sub_result : tie.Need-overflow-sub-result
-sub_result c = omega (arith, hex_least c.before.args.byte c.before.requires)
+sub_result : tie.Need-overflow_sub-result
+sub_result c = omega (arith, hex_least c.args.byte c.requires)
 
-returns : tie.Need-returns
+returns : tie.Need-returns-then-byte-le57
 unfolding hex_digit
-returns c = rw (le-leb c.before.args.byte 57 (omega arith))
+returns c = rw (le-leb c.args.byte 57 (omega arith))
 
-returns-2 : tie.Need-returns-2
+returns-2 : tie.Need-returns-then-byte-le70
 unfolding hex_digit
-returns-2 c = rw (lt-leb c.before.before.args.byte 57 (omega arith), le-leb c.before.before.args.byte 70 (omega arith))
+returns-2 c = rw (lt-leb c.args.byte 57 (omega arith), le-leb c.args.byte 70 (omega arith))
 
-sub_result_3 : tie.Need-overflow-sub-result-3
-sub_result_3 c = omega (arith, hex_small c.before.before.args.byte c.before.before.requires (omega arith))
+sub_result_3 : tie.Need-overflow_sub-result-2
+sub_result_3 c = omega (arith, hex_small c.args.byte c.requires (omega arith))
 
-returns-3 : tie.Need-returns-3
+returns-3 : tie.Need-returns
 unfolding hex_digit
-returns-3 c = rw (lt-leb c.before.before.args.byte 57 (omega arith), lt-leb c.before.before.args.byte 70 (omega arith))
+returns-3 c = rw (lt-leb c.args.byte 57 (omega arith), lt-leb c.args.byte 70 (omega arith))
 
 pub hex_digit_spec : {M : Type 1} → statement M
 hex_digit_spec = tie.close (tie.spec sub_result returns (λ c. search rules) returns-2 sub_result_3 returns-3)

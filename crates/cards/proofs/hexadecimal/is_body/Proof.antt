@@ -11,17 +11,17 @@ use borrow.Author.Rules.{rules}
 use Rattle.cards.proofs.hexadecimal.is_body.Statement.{statement}
 use Rattle.cards.proofs.hexadecimal.is_body.Tie as tie
 
-returns : tie.Need-returns
+returns : tie.Need-returns-then-same
 unfolding is_body ascii
-returns c = rw (sym c.before.same.ensures ∙ c.if1.true)
+returns c = rw (sym c.same.ensures ∙ c.if-same.true)
 
-returns-2 : tie.Need-returns-2
+returns-2 : tie.Need-returns-then-word-ne0
 unfolding is_body ascii
-returns-2 c = rw (sym c.before.before.same.ensures ∙ c.before.if1.false, ne_eqb (length c.before.before.before.before.before.args.word.now % 2) 0 c.if2.true)
+returns-2 c = rw (sym c.same.ensures ∙ c.if-same.false, ne_eqb (length c.args.word.now % 2) 0 c.if-word-ne0.true)
 
-returns-3 : tie.Need-returns-3
+returns-3 : tie.Need-returns
 unfolding is_body ascii
-returns-3 c = rw (sym c.before.before.before.same.ensures ∙ c.before.before.if1.false, eq-eqb (length c.before.before.before.before.before.before.args.word.now % 2) 0 c.before.if2.false) c.all-hex.ensures
+returns-3 c = rw (sym c.same.ensures ∙ c.if-same.false, eq-eqb (length c.args.word.now % 2) 0 c.if-word-ne0.false) c.all_hex.ensures
 
 pub is_body_spec : {M : Type 1} → statement M
-is_body_spec = tie.close (tie.spec (λ c. search rules) (λ c κs. search rules) returns returns-2 (λ c κs. search rules) returns-3)
+is_body_spec = tie.close (tie.spec (λ c κs. search rules) returns returns-2 (λ c κs. search rules) returns-3)

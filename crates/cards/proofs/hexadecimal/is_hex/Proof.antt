@@ -6,17 +6,17 @@ use borrow.Author.Rules.{rules}
 use Rattle.cards.proofs.hexadecimal.is_hex.Statement.{statement}
 use Rattle.cards.proofs.hexadecimal.is_hex.Tie as tie
 
-returns : tie.Need-returns
+returns : tie.Need-returns-then-between
 unfolding is_hex
-returns c = rw (sym c.before.between.ensures ∙ c.if1.true)
+returns c = rw (sym c.between.ensures ∙ c.if-between.true)
 
-returns-2 : tie.Need-returns-2
+returns-2 : tie.Need-returns-then-between-2
 unfolding is_hex
-returns-2 c = rw (sym c.before.before.before.between.ensures ∙ c.before.before.if1.false, sym c.before.between2.ensures ∙ c.if2.true)
+returns-2 c = rw (sym c.between.ensures ∙ c.if-between.false, sym c.between-2.ensures ∙ c.if-between-2.true)
 
-returns-3 : tie.Need-returns-3
+returns-3 : tie.Need-returns
 unfolding is_hex
-returns-3 c = rw (sym c.before.before.before.before.between.ensures ∙ c.before.before.before.if1.false, sym c.before.before.between2.ensures ∙ c.before.if2.false) c.between3.ensures
+returns-3 c = rw (sym c.between.ensures ∙ c.if-between.false, sym c.between-2.ensures ∙ c.if-between-2.false) c.between-3.ensures
 
 pub is_hex_spec : {M : Type 1} → statement M
 is_hex_spec = tie.close (tie.spec (λ c κs. search rules) returns (λ c κs. search rules) returns-2 (λ c κs. search rules) returns-3)

@@ -13,27 +13,27 @@ use borrow.Author.Rules.{rules}
 use Rattle.cards.proofs.hexadecimal.is_tag.Statement.{statement}
 use Rattle.cards.proofs.hexadecimal.is_tag.Tie as tie
 
-returns : tie.Need-returns
+returns : tie.Need-returns-then-word-ne2
 unfolding is_tag
-returns c = rw (ne_eqb (length c.before.before.args.word.now) 2 c.if1.true)
+returns c = rw (ne_eqb (length c.args.word.now) 2 c.if-word-ne2.true)
 
-returns-2 : tie.Need-returns-2
+returns-2 : tie.Need-returns-then-not-all_hex
 unfolding is_tag
-returns-2 c = rw (eq-eqb (length c.before.before.before.before.args.word.now) 2 c.before.before.if1.false, sym c.before.all-hex.ensures ∙ not-true _ c.if2.true)
+returns-2 c = rw (eq-eqb (length c.args.word.now) 2 c.if-word-ne2.false, sym c.all_hex.ensures ∙ not-true _ c.if-not-all_hex.true-raw)
 
-hex_byte_requires : tie.Need-hex-byte-requires
+hex_byte_requires : tie.Need-hex_byte-requires
 hex_byte_requires c κs =
-    let w = c.before.before.before.before.args.word.now in
-    let all = sym c.before.all-hex.ensures ∙ not-false _ c.if2.false in
+    let w = c.args.word.now in
+    let all = sym c.all_hex.ensures ∙ not-false _ c.if-not-all_hex.false-raw in
     let first = sym (all_here w 0 (omega arith)) ∙ all in
     let rest : all_hex (drop 1 w) ≡ true = and_second (is_hex (get_or w 0 0)) (all_hex (drop 1 w)) first in
     (omega arith, and_first (is_hex (get_or w 0 0)) (all_hex (drop 1 w)) first, and_first (is_hex (get_or w 1 0)) (all_hex (drop 2 w)) (sym (all_here w 1 (omega arith)) ∙ rest))
 
-returns-3 : tie.Need-returns-3
+returns-3 : tie.Need-returns
 unfolding is_tag
 returns-3 c =
-    rw (eq-eqb (length c.before.before.before.before.before.args.word.now) 2 c.before.before.before.if1.false, sym c.before.before.all-hex.ensures ∙ not-false _ c.before.if2.false)
-    (search (ap (ltb c.before.before.before.before.before.args.least) c.hex-byte.ensures))
+    rw (eq-eqb (length c.args.word.now) 2 c.if-word-ne2.false, sym c.all_hex.ensures ∙ not-false _ c.if-not-all_hex.false-raw)
+    (search (ap (ltb c.args.least) c.hex_byte.ensures))
 
 pub is_tag_spec : {M : Type 1} → statement M
 is_tag_spec = tie.close (tie.spec returns (λ c κs. search rules) returns-2 hex_byte_requires (λ c. search rules) returns-3)

@@ -12,20 +12,20 @@ use borrow.Author.Rules.{rules}
 use Rattle.cards.proofs.hexadecimal.put_body.Statement.{statement}
 use Rattle.cards.proofs.hexadecimal.put_body.Tie as tie
 
-returns : tie.Need-returns
+returns : tie.Need-returns-then-same
 unfolding ascii
-returns c = named (nothing _ _) (sym (body-none c.before.before.before.before.before.args.word.now (sym c.before.same.ensures ∙ c.if1.true)))
+returns c = named (nothing _ _) (sym (body-none c.args.word.now (sym c.same.ensures ∙ c.if-same.true)))
 
-put_hex_requires : tie.Need-put-hex-requires
+put_hex_requires : tie.Need-put_hex-requires
 unfolding ascii
-put_hex_requires c κs = body_is c.before.before.before.before.before.before.args.word.now (sym c.before.before.same.ensures ∙ c.before.if1.false) c.before.before.before.before.before.before.requires
+put_hex_requires c κs = body_is c.args.word.now (sym c.same.ensures ∙ c.if-same.false) c.requires
 
-same_length : tie.Need-same-length
-same_length c = kept c.before.before.put-hex.ensures
+same_length : tie.Need-shape_of-out
+same_length c = kept c.put_hex.ensures
 
-returns-2 : tie.Need-returns-2
+returns-2 : tie.Need-returns
 unfolding ascii
-returns-2 c = named c.before.before.put-hex.ensures (sym (body-digits c.before.before.before.before.before.before.before.before.before.args.word.now (sym c.before.before.before.before.before.same.ensures ∙ c.before.before.before.before.if1.false)))
+returns-2 c = named c.put_hex.ensures (sym (body-digits c.args.word.now (sym c.same.ensures ∙ c.if-same.false)))
 
 pub put_body_spec : {M : Type 1} → statement M
-put_body_spec = tie.close (tie.spec (λ c. search rules) (λ c κs. search rules) returns put_hex_requires same_length returns-2)
+put_body_spec = tie.close (tie.spec (λ c κs. search rules) returns put_hex_requires same_length returns-2)

@@ -9,12 +9,7 @@ use Rattle.cards.proofs.lines.put_block.Tie as tie
 returns : tie.Need-returns
 unfolding ascii
 returns c =
-    let c5 = c.before.before in
-    let c4 = c5.before.before.before.before in
-    let c3 = c4.before.before.before.before.before in
-    let c2 = c3.before.before.before.before.before in
-    let c1 = c2.before.before.before.before in
-    named (c1.put-text.ensures then (c2.put-side.ensures then c3.put-text2.ensures then c4.put-side2.ensures) then c5.put_byte.ensures) (search rules)
+    named (c.put_text-word_end.ensures then (c.put_side-left_end.ensures then c.put_text-bar_end.ensures then c.put_side-right_end.ensures) then c.put_byte.ensures) (search rules)
 
 pub put_block_spec : {M : Type 1} → statement M
 put_block_spec =
@@ -22,10 +17,8 @@ put_block_spec =
     (tie.spec
     (λ c. search rules)
     (λ c. search rules)
-    (λ c. search rules)
     (λ c κs. tt)
     (λ c κs. search rules)
-    (λ c. search rules)
     (λ c κs. tt)
     (λ c. search rules)
     (λ c κs. search rules)

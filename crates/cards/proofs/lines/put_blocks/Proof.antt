@@ -12,24 +12,22 @@ use Rattle.printing.proofs.Each.{no_lines, more-lines}
 use Rattle.cards.proofs.lines.put_blocks.Statement.{statement}
 use Rattle.cards.proofs.lines.put_blocks.Tie as tie
 
-abbrev invariant-loop : tie.invariant-loop
+abbrev invariant-loop : tie.invariant-loop-k
 invariant-loop out₀ at head blocks count place₀ k₀ out place k = (k ≤ count) × Wrote out₀ at (each k (block_line head blocks)) out place
 
-abbrev decreases-loop : tie.decreases-loop
+abbrev decreases-loop : tie.decreases-loop-k
 decreases-loop out₀ at head blocks count place₀ k₀ out place k = count - k
 
-loop-again : tie.Need-loop-preserved invariant-loop decreases-loop
+loop-again : tie.Need-loop-k-preserved invariant-loop decreases-loop
 loop-again c =
-    let put = c.before.before in
-    let turn = put.before.before.before in
-    let a = turn.before.before.before.args in
-    (omega arith, more-lines (block_line a.head a.blocks.now) turn.loop.k turn.loop.invariant.1 (named put.put-block.ensures (search rules)))
+    let a = c.args in
+    (omega arith, more-lines (block_line a.head a.blocks.now) c.loop-k.k c.loop-k.invariant.1 (named c.put_block-place.ensures (search rules)))
 
 returns : tie.Need-returns invariant-loop decreases-loop
 returns c =
-    let a = c.before.before.before.before.args in
-    let e : c.before.loop.k ≡ a.head.m = omega arith in
-    named c.before.loop.invariant.1 (λ j. each (e j) (block_line a.head a.blocks.now))
+    let a = c.args in
+    let e : c.loop-k.k ≡ a.head.m = omega arith in
+    named c.loop-k.invariant.1 (λ j. each (e j) (block_line a.head a.blocks.now))
 
 pub put_blocks_spec : {M : Type 1} → statement M
 put_blocks_spec =
@@ -39,10 +37,10 @@ put_blocks_spec =
     decreases-loop
     (λ c. (omega arith, no_lines _ _ _))
     (λ c κs.
-    let a = c.before.before.before.before.before.args in
-    omega (arith, c.before.before.before.before.before.requires, mul-le-mul_left (2 * a.head.p) c.before.loop-test.true))
+    let a = c.args in
+    omega (arith, c.requires, mul-le-mul_left (2 * a.head.p) c.loop-k-test.true))
     (λ c. omega arith)
     (λ c. omega arith)
     loop-again
-    (λ c. kept c.before.loop.invariant.1)
+    (λ c. kept c.loop-k.invariant.1)
     returns)

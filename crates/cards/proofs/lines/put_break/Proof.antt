@@ -7,16 +7,15 @@ use Rattle.algebra.proofs.Writing.{named, nothing}
 use Rattle.cards.proofs.lines.put_break.Statement.{statement}
 use Rattle.cards.proofs.lines.put_break.Tie as tie
 
-returns : tie.Need-returns
+returns : tie.Need-returns-then-k-n-eq0
 returns c =
-    let test = c.before.before.before.before in
-    let a = test.before.before.args in
-    named c.before.before.put_byte.ensures (rw (eq-eqb (a.k % a.n) 0 test.if1.true) (search rules))
+    let a = c.args in
+    named c.put_byte.ensures (rw (eq-eqb (a.k % a.n) 0 c.if-k-n-eq0.true) (search rules))
 
-returns-2 : tie.Need-returns-2
+returns-2 : tie.Need-returns-else-k-n-eq0
 returns-2 c =
-    let a = c.before.before.args in
-    named (nothing _ _) (rw (ne_eqb (a.k % a.n) 0 c.if1.false) (search rules))
+    let a = c.args in
+    named (nothing _ _) (rw (ne_eqb (a.k % a.n) 0 c.if-k-n-eq0.false) (search rules))
 
 pub put_break_spec : {M : Type 1} → statement M
 put_break_spec =

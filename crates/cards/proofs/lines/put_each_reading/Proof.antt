@@ -24,44 +24,41 @@ use Rattle.cards.proofs.lines.put_each_reading.Tie as tie
 abbrev reading_at : ℕ → List ℤ → ℕ → List ℕ
 reading_at n y k = cond (eqb (k % n) 0) (10 ∷ []) [] ++ signed_text (reading y k)
 
-abbrev invariant-loop : tie.invariant-loop
+abbrev invariant-loop : tie.invariant-loop-k
 invariant-loop out₀ at readings n place₀ k₀ out place k = (k ≤ length readings) × Wrote out₀ at (each k (reading_at n readings)) out place
 
-abbrev decreases-loop : tie.decreases-loop
+abbrev decreases-loop : tie.decreases-loop-k
 decreases-loop out₀ at readings n place₀ k₀ out place k = length readings - k
 
 -- a turn
-module _ (c : tie.After-reading invariant-loop decreases-loop) where
+module _ (c : tie.After-reading-1 invariant-loop decreases-loop) where
   abbrev start : tie.Start invariant-loop decreases-loop
   start = c.before.before.before.before
 
   abbrev read : ℤ
-  read = get_or start.args.readings.now c.before.before.loop.k (pos 0)
+  read = get_or start.args.readings.now c.loop-k.k (pos 0)
 
   fits : SFits w32 read
-  fits = record { sfits = c.reading.given }
+  fits = record { sfits = c.reading-1.given }
 
   -- cast to 64 bits it is the same
   wide : to_z w64 (of_z w64 (to_z w32 (of_z w32 read))) ≡ read
   wide = to_z-of_z (widened_fits read fits) ∙ to_z-of_z fits
 
-loop-again : tie.Need-loop-preserved invariant-loop decreases-loop
+loop-again : tie.Need-loop-k-preserved invariant-loop decreases-loop
 loop-again c =
-    let put = c.before.before in
-    let break = put.before.before.before.before in
-    let turn = break.before.before in
-    let l = turn.before.before.loop in
-    let a = (start turn).args in (
+    let l = c.loop-k in
+    let a = (start c.before.before.before.before.before.before.before.before).args in (
       omega arith,
       more-lines (reading_at a.head.n a.readings.now) l.k l.invariant.1
-          (named (break.put-break.ensures then put.put-signed.ensures) (rw (wide turn) (search rules))),
+          (named (c.put_break-start.ensures then c.put_signed-place.ensures) (rw (wide c.before.before.before.before.before.before.before.before) (search rules))),
     )
 
 returns : tie.Need-returns invariant-loop decreases-loop
 returns c =
-    let a = c.before.before.before.args in
-    let e : c.before.loop.k ≡ length a.readings.now = omega arith in
-    named c.before.loop.invariant.1 (λ j. each (e j) (reading_at a.head.n a.readings.now))
+    let a = c.args in
+    let e : c.loop-k.k ≡ length a.readings.now = omega arith in
+    named c.loop-k.invariant.1 (λ j. each (e j) (reading_at a.head.n a.readings.now))
 
 pub put_each_reading_spec : {M : Type 1} → statement M
 put_each_reading_spec =
@@ -72,11 +69,11 @@ put_each_reading_spec =
     (λ c. (omega arith, no_lines _ _ _))
     (λ c. omega arith)
     (λ c. omega arith)
-    (λ c κs. c.before.before.before.before.before.requires)
+    (λ c κs. c.requires)
     (λ c. widened_fits _ (fits c.before.before.before.before.before))
     (λ c κs. tt)
     (λ c. omega arith)
     (λ c. omega arith)
     loop-again
-    (λ c. kept c.before.loop.invariant.1)
+    (λ c. kept c.loop-k.invariant.1)
     returns)

@@ -6,10 +6,7 @@ use Rattle.cards.proofs.lines.put_kind.Tie as tie
 
 returns : tie.Need-returns
 returns c =
-    let c3 = c.before.before in
-    let c2 = c3.before.before.before.before in
-    let c1 = c2.before.before.before.before in
-    named (c1.put-addition.ensures then c2.put-number.ensures then c3.put_byte.ensures) (search rules)
+    named (c.put_addition-word_end.ensures then c.put_number-size_end.ensures then c.put_byte.ensures) (search rules)
 
 pub put_kind_spec : {M : Type 1} → statement M
 put_kind_spec =

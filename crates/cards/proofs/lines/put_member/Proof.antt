@@ -8,16 +8,15 @@ use Rattle.meaning.specs.Analysis.{member}
 use Rattle.cards.proofs.lines.put_member.Statement.{statement}
 use Rattle.cards.proofs.lines.put_member.Tie as tie
 
-returns : tie.Need-returns
+returns : tie.Need-returns-then-holds-eq1
 returns c =
-    let test = c.before.before.before.before in
-    let a = test.before.before.before.args in
-    named c.before.before.put-number.ensures (rw (eq-eqb (member a.set a.i) 1 (sym test.before.holds.ensures ∙ test.if1.true)) (search rules))
+    let a = c.args in
+    named c.put_number.ensures (rw (eq-eqb (member a.set a.i) 1 (sym c.holds.ensures ∙ c.if-holds-eq1.true)) (search rules))
 
-returns-2 : tie.Need-returns-2
+returns-2 : tie.Need-returns-else-holds-eq1
 returns-2 c =
-    let a = c.before.before.before.args in
-    named (nothing _ _) (rw (ne_eqb (member a.set a.i) 1 (λ e. c.if1.false (c.before.holds.ensures ∙ e))) (search rules))
+    let a = c.args in
+    named (nothing _ _) (rw (ne_eqb (member a.set a.i) 1 (λ e. c.if-holds-eq1.false (c.holds.ensures ∙ e))) (search rules))
 
 pub put_member_spec : {M : Type 1} → statement M
 put_member_spec =

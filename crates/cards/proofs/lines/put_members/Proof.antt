@@ -11,23 +11,21 @@ use Rattle.printing.proofs.Each.{no_lines, more-lines}
 use Rattle.cards.proofs.lines.put_members.Statement.{statement}
 use Rattle.cards.proofs.lines.put_members.Tie as tie
 
-abbrev invariant-loop : tie.invariant-loop
+abbrev invariant-loop : tie.invariant-loop-i
 invariant-loop out₀ at count set place₀ i₀ out place i = (i ≤ count) × Wrote out₀ at (each i (member_text set)) out place
 
-abbrev decreases-loop : tie.decreases-loop
+abbrev decreases-loop : tie.decreases-loop-i
 decreases-loop out₀ at count set place₀ i₀ out place i = count - i
 
-loop-again : tie.Need-loop-preserved invariant-loop decreases-loop
+loop-again : tie.Need-loop-i-preserved invariant-loop decreases-loop
 loop-again c =
-    let put = c.before.before in
-    let turn = put.before.before.before in
-    (omega arith, more-lines (member_text turn.before.before.args.set) turn.loop.i turn.loop.invariant.1 (named put.put-member.ensures (search rules)))
+    (omega arith, more-lines (member_text c.args.set) c.loop-i.i c.loop-i.invariant.1 (named c.put_member-place.ensures (search rules)))
 
 returns : tie.Need-returns invariant-loop decreases-loop
 returns c =
-    let a = c.before.before.before.args in
-    let e : c.before.loop.i ≡ a.count = omega arith in
-    named c.before.loop.invariant.1 (λ j. each (e j) (member_text a.set))
+    let a = c.args in
+    let e : c.loop-i.i ≡ a.count = omega arith in
+    named c.loop-i.invariant.1 (λ j. each (e j) (member_text a.set))
 
 pub put_members_spec : {M : Type 1} → statement M
 put_members_spec =
@@ -40,5 +38,5 @@ put_members_spec =
     (λ c. omega arith)
     (λ c. omega arith)
     loop-again
-    (λ c. kept c.before.loop.invariant.1)
+    (λ c. kept c.loop-i.invariant.1)
     returns)

@@ -8,16 +8,12 @@ use Rattle.cards.proofs.lines.put_readings.Tie as tie
 returns : tie.Need-returns
 unfolding ascii
 returns c =
-    let c3 = c.before.before in
-    let c2 = c3.before.before.before.before in
-    let c1 = c2.before.before.before.before in
-    named (c1.put-text.ensures then c2.put-each-reading.ensures then c3.put_byte.ensures) (search rules)
+    named (c.put_text-word_end.ensures then c.put_each_reading-readings_end.ensures then c.put_byte.ensures) (search rules)
 
 pub put_readings_spec : {M : Type 1} → statement M
 put_readings_spec =
     tie.close
     (tie.spec
-    (λ c. search rules)
     (λ c κs. tt)
     (λ c κs. search rules)
     (λ c κs. tt)

@@ -17,24 +17,22 @@ use Rattle.cards.proofs.lines.put_side.Tie as tie
 abbrev object_at : List ℕ → ℕ → ℕ → List ℕ
 object_at blocks start i = object_text (get_or blocks (start + i) 0)
 
-abbrev invariant-loop : tie.invariant-loop
+abbrev invariant-loop : tie.invariant-loop-i
 invariant-loop out₀ at blocks start count place₀ i₀ out place i = (i ≤ count) × Wrote out₀ at (each i (object_at blocks start)) out place
 
-abbrev decreases-loop : tie.decreases-loop
+abbrev decreases-loop : tie.decreases-loop-i
 decreases-loop out₀ at blocks start count place₀ i₀ out place i = count - i
 
-loop-again : tie.Need-loop-preserved invariant-loop decreases-loop
+loop-again : tie.Need-loop-i-preserved invariant-loop decreases-loop
 loop-again c =
-    let put = c.before.before in
-    let turn = put.before.before.before.before in
-    let start = turn.before.before.before.args in
-    (omega arith, more-lines (object_at start.blocks.now start.start) turn.loop.i turn.loop.invariant.1 (named put.put-object.ensures (search rules)))
+    let start = c.args in
+    (omega arith, more-lines (object_at start.blocks.now start.start) c.loop-i.i c.loop-i.invariant.1 (named c.put_object-place.ensures (search rules)))
 
 returns : tie.Need-returns invariant-loop decreases-loop
 returns c =
-    let a = c.before.before.before.before.args in
-    let e : c.before.loop.i ≡ a.head.p = omega arith in
-    named c.before.loop.invariant.1 (λ j. each (e j) (object_at a.blocks.now a.start))
+    let a = c.args in
+    let e : c.loop-i.i ≡ a.head.p = omega arith in
+    named c.loop-i.invariant.1 (λ j. each (e j) (object_at a.blocks.now a.start))
 
 pub put_side_spec : {M : Type 1} → statement M
 put_side_spec =
@@ -49,5 +47,5 @@ put_side_spec =
     (λ c. omega arith)
     (λ c. omega arith)
     loop-again
-    (λ c. kept c.before.loop.invariant.1)
+    (λ c. kept c.loop-i.invariant.1)
     returns)

@@ -8,21 +8,19 @@ use Rattle.meaning.specs.Text.{ascii}
 use Rattle.cards.proofs.lines.put_taking_part.Statement.{statement}
 use Rattle.cards.proofs.lines.put_taking_part.Tie as tie
 
-returns : tie.Need-returns
+returns : tie.Need-returns-then-flag-eq1
 unfolding ascii
-returns c = named c.before.before.put-text.ensures (rw (eq-eqb (c.before.before.before.before.before.before.before.args.flag % 2) 1 (omega arith)) (search rules))
+returns c = named c.put_text.ensures (rw (eq-eqb (c.args.flag % 2) 1 (omega arith)) (search rules))
 
-returns-2 : tie.Need-returns-2
+returns-2 : tie.Need-returns-else-flag-eq1
 unfolding ascii
-returns-2 c = named c.before.before.put-text2.ensures (rw (ne_eqb (c.before.before.before.before.before.before.before.args.flag % 2) 1 (λ e. omega arith)) (search rules))
+returns-2 c = named c.put_text-else-flag-eq1.ensures (rw (ne_eqb (c.args.flag % 2) 1 (λ e. omega arith)) (search rules))
 
 pub put_taking_part_spec : {M : Type 1} → statement M
 put_taking_part_spec =
     tie.close
     (tie.spec
-    (λ c. search rules)
     (λ c κs. tt)
-    (λ c. search rules)
     (λ c κs. tt)
     (λ c. search rules)
     returns

@@ -13,7 +13,7 @@ use Rattle.cards.proofs.making.Answers.{no_room, with_room}
 use Rattle.cards.proofs.making.file_refusal.Statement.{statement}
 use Rattle.cards.proofs.making.file_refusal.Tie as tie
 
-module _ (c : tie.After-is-refused) where
+module _ (c : tie.After-is_refused) where
   abbrev start : tie.Start
   start = c.before.before.before.before
 
@@ -21,26 +21,23 @@ module _ (c : tie.After-is-refused) where
   card = start.args.card.now
 
   long : length start.args.file.now ≡ length (card_file card)
-  long = ap length start.pre.whole
+  long = ap length start.requires.whole
 
-returns : tie.Need-returns
+returns : tie.Need-returns-then-is_refused
 returns c =
-    let e = c.before in
-    let rest = room (start e).args.space (length (card_file (card e))) in
-    refusing_first _ rest (sym e.is-refused.ensures ∙ c.if1.true) ∙ ap (λ (v : Verdict). v ⨾ rest) e.before.file-verdict.ensures
+    let rest = room (start c.before).args.space (length (card_file (card c.before))) in
+    refusing_first _ rest (sym c.is_refused.ensures ∙ c.if-is_refused.true) ∙ ap (λ (v : Verdict). v ⨾ rest) c.file_verdict-verdict.ensures
 
-sound : (c : tie.Else1) → file_verdict (card c.before) ≡ accepted
-sound c = sym c.before.before.file-verdict.ensures ∙ accepting _ (sym c.before.is-refused.ensures ∙ c.if1.false)
+sound : (c : tie.Else-is_refused) → file_verdict (card c.before) ≡ accepted
+sound c = sym c.file_verdict-verdict.ensures ∙ accepting _ (sym c.is_refused.ensures ∙ c.if-is_refused.false)
 
-returns-2 : tie.Need-returns-2
+returns-2 : tie.Need-returns-then-space-file
 returns-2 c =
-    let e = c.before.before in
-    no_room (card e) (sound c.before) (start e).args.space (omega (arith, long e, c.if2.true))
+    no_room (card c.before.before) (sound c.before) (start c.before.before).args.space (omega (arith, long c.before.before, c.if-space-file.true))
 
-returns-3 : tie.Need-returns-3
+returns-3 : tie.Need-returns
 returns-3 c =
-    let e = c.before.before in
-    with_room (card e) (sound c.before) (start e).args.space (omega (arith, long e, c.if2.false))
+    with_room (card c.before.before) (sound c.before) (start c.before.before).args.space (omega (arith, long c.before.before, c.if-space-file.false))
 
 pub file_refusal_spec : {M : Type 1} → statement M
-file_refusal_spec = tie.close (tie.spec (λ c κs. c.before.before.requires) (λ c κs. tt) returns returns-2 returns-3)
+file_refusal_spec = tie.close (tie.spec (λ c κs. c.requires) (λ c κs. tt) returns returns-2 returns-3)

@@ -18,7 +18,7 @@ use Rattle.cards.proofs.making.make_file.Statement.{statement}
 use Rattle.cards.proofs.making.make_file.Tie as tie
 
 -- the file in its room
-module _ (c : tie.After-file2) where
+module _ (c : tie.After-file-2-1) where
   abbrev start : tie.Start
   start = c.before.before.before.before.before.before
 
@@ -26,48 +26,47 @@ module _ (c : tie.After-file2) where
   card = start.args.card.now
 
   abbrev file : List ℕ
-  file = c.before.put-file.new.1.1.0
+  file = c.put_file-length.new.file
 
   is-file : file_from start.args.seen start.args.body.now ≡ card_file card
   unfolding card_file
-  is-file = λ j. file_from (start.pre.is j) (start.pre.bytes j)
+  is-file = λ j. file_from (start.requires.is j) (start.requires.bytes j)
 
   short : length (card_file card) ≤ 16384
   unfolding card_file
-  short = omega (arith, file-most (card_of card) (bytes_in card), start.pre.few)
+  short = omega (arith, file-most (card_of card) (bytes_in card), start.requires.few)
 
-  stood : (take c.before.put-file.result file ≡ card_file card) × (c.before.put-file.result ≤ 16384)
-  stood = stands c.before.put-file.ensures is-file c.file2.given short
+  stood : (take c.put_file-length.result file ≡ card_file card) × (c.put_file-length.result ≤ 16384)
+  stood = stands c.put_file-length.ensures is-file c.file-2-1.given short
 
-  inside : c.before.put-file.result ≤ length file
-  inside = omega (arith, stood.1, c.file2.given)
+  inside : c.put_file-length.result ≤ length file
+  inside = omega (arith, stood.1, c.file-2-1.given)
 
-file_refusal_requires : tie.Need-file-refusal-requires
+file_refusal_requires : tie.Need-file_refusal-verdict-requires
 file_refusal_requires c κs =
-    let s = (start c.before).pre in
+    let s = (start c.before).requires in
     record { short = s.short; is = s.is; whole = (stood c.before).0; small = s.small }
 
-returns : tie.Need-returns
+returns : tie.Need-returns-then-is_refused
 returns c =
-    let f = c.before.before.before.before in
-    unfiled (card f) (start f).args.out.now _ c.before.before.file-refusal.ensures (sym c.before.is-refused.ensures ∙ c.if1.true)
+    unfiled (card c.before.before.before.before) (start c.before.before.before.before).args.out.now _ c.file_refusal-verdict.ensures (sym c.is_refused.ensures ∙ c.if-is_refused.true)
 
-returns-2 : tie.Need-returns-2
+returns-2 : tie.Need-returns
 returns-2 c =
     let put = c.before.before in
     let e = put.before.before.before in
     let tested = e.before.before in
     let f = tested.before.before in
-    let says : tested.file-refusal.result ≡ accepted = accepting _ (sym e.before.is-refused.ensures ∙ e.if1.false) in
-    let passed : filing (card f) (length (start f).args.out.now) ≡ accepted = sym tested.file-refusal.ensures ∙ says in
-    filed (card f) (start f).args.out.now passed _ says (named put.put-text.ensures (stood f).0) (omega (arith, f.before.before.before))
+    let says : tested.file_refusal-verdict.result ≡ accepted = accepting _ (sym e.is_refused.ensures ∙ e.if-is_refused.false) in
+    let passed : filing (card f) (length (start f).args.out.now) ≡ accepted = sym tested.file_refusal-verdict.ensures ∙ says in
+    filed (card f) (start f).args.out.now passed _ says (named put.put_text-end.ensures (stood f).0) (omega (arith, f.before.before.before))
 
 pub make_file_spec : {M : Type 1} → statement M
 make_file_spec =
     tie.close
     (tie.spec
     (λ c. search rules)
-    (λ c κs. c.before.before.before.before.requires.small)
+    (λ c κs. c.requires.small)
     (λ c. inside c)
     (λ c. sym (length-take-le _ _ (inside c.before)))
     file_refusal_requires

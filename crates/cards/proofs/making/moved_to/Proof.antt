@@ -5,16 +5,12 @@ use Rattle.meaning.specs.Card.{word_in, bytes_before}
 use Rattle.cards.proofs.making.moved_to.Statement.{statement}
 use Rattle.cards.proofs.making.moved_to.Tie as tie
 
-returns : tie.Need-returns
-returns c = rw c.enum_told.given.1 (search rules)
+returns : tie.Need-returns-in-Accepted
+returns c = rw c.in-Accepted.is (search rules)
 
-returns-2 : tie.Need-returns-2
+returns-2 : tie.Need-returns-in-Refused
 returns-2 c =
-    let before = c.before in
-    let less = before.before in
-    let wants = less.before in
-    let refusal = wants.before.before.verdict.given in
-    rw refusal.1 (rw (c.word_of.ensures, before.bytes-before.ensures, less.less.ensures, wants.wants-for.ensures) (search rules))
+    rw c.in-Refused.is (rw (c.word_of-word.ensures, c.bytes_before.ensures, c.less.ensures, c.wants_for.ensures) (search rules))
 
 pub moved_to_spec : {M : Type 1} → statement M
 moved_to_spec =

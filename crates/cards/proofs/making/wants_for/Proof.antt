@@ -3,30 +3,30 @@ use borrow.Author.Tests.{ne_eqb}
 use Rattle.cards.proofs.making.wants_for.Statement.{statement}
 use Rattle.cards.proofs.making.wants_for.Tie as tie
 
-returns : tie.Need-returns
-returns c = rw c.if1.true
+returns : tie.Need-returns-then-number-eq4
+returns c = rw c.if-number-eq4.true
 
-returns-2 : tie.Need-returns-2
-returns-2 c = rw c.if2.true
+returns-2 : tie.Need-returns-then-number-eq6
+returns-2 c = rw c.if-number-eq6.true
 
-returns-3 : tie.Need-returns-3
-returns-3 c = rw c.if3.true
+returns-3 : tie.Need-returns-then-number-eq7
+returns-3 c = rw c.if-number-eq7.true
 
-returns-4 : tie.Need-returns-4
-returns-4 c = rw c.if4.true
+returns-4 : tie.Need-returns-then-number-eq11
+returns-4 c = rw c.if-number-eq11.true
 
-returns-5 : tie.Need-returns-5
-returns-5 c = rw c.if5.true
+returns-5 : tie.Need-returns-then-number-eq3
+returns-5 c = rw c.if-number-eq3.true
 
-returns-6 : tie.Need-returns-6
+returns-6 : tie.Need-returns
 returns-6 c =
-    let k = c.before.before.before.before.before.args.number in
+    let k = c.args.number in
     rw (
-      ne_eqb k 4 c.before.before.before.before.if1.false,
-      ne_eqb k 6 c.before.before.before.if2.false,
-      ne_eqb k 7 c.before.before.if3.false,
-      ne_eqb k 11 c.before.if4.false,
-      ne_eqb k 3 c.if5.false,
+      ne_eqb k 4 c.if-number-eq4.false,
+      ne_eqb k 6 c.if-number-eq6.false,
+      ne_eqb k 7 c.if-number-eq7.false,
+      ne_eqb k 11 c.if-number-eq11.false,
+      ne_eqb k 3 c.if-number-eq3.false,
     )
 
 pub wants_for_spec : {M : Type 1} → statement M

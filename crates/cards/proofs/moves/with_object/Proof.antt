@@ -8,7 +8,7 @@ use borrow.Author.Rules.{rules}
 use Rattle.cards.proofs.moves.with_object.Statement.{statement}
 use Rattle.cards.proofs.moves.with_object.Tie as tie
 
-add_result : tie.Need-overflow-add-result
+add_result : tie.Need-overflow_add-result
 add_result c = omega (arith, shl_one c.args.object (omega arith), bit-room c.args.set c.args.object c.requires.0 (omega arith) c.requires.1)
 
 returns : tie.Need-returns

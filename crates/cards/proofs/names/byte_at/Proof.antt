@@ -11,30 +11,30 @@ use borrow.Author.Rules.{rules}
 use Rattle.cards.proofs.names.byte_at.Statement.{statement}
 use Rattle.cards.proofs.names.byte_at.Tie as tie
 
-returns : tie.Need-returns
-returns c = sym (byte_over c.before.before.args.word.now c.before.before.args.at (omega arith))
+returns : tie.Need-returns-then-word-at
+returns c = sym (byte_over c.args.word.now c.args.at (omega arith))
 
-hex_byte_requires : tie.Need-hex-byte-requires
+hex_byte_requires : tie.Need-hex_byte-requires
 hex_byte_requires c κs =
-    let w = c.before.before.before.before.args.word.now in
-    let at = c.before.before.before.before.args.at in
+    let w = c.args.word.now in
+    let at = c.args.at in
     let more : at < length w = omega arith in
-    let e = escape_here w at more c.if2.true (c.before.before.before.before.requires.1 more) in
+    let e = escape_here w at more c.if-word-at-eq-BACKSLASH.true (c.requires.1 more) in
     (escape_inside w at e, escape_first w at e, escape_second w at e)
 
-returns-2 : tie.Need-returns-2
+returns-2 : tie.Need-returns-then-word-at-eq-BACKSLASH
 returns-2 c =
-    let w = c.before.before.before.before.before.args.word.now in
-    let at = c.before.before.before.before.before.args.at in
+    let w = c.args.word.now in
+    let at = c.args.at in
     let more : at < length w = omega arith in
-    rw (byte_inside w at more, eq-eqb (get_or w at 0) 92 c.before.if2.true) c.hex-byte.ensures
+    rw (byte_inside w at more, eq-eqb (get_or w at 0) 92 c.if-word-at-eq-BACKSLASH.true) c.hex_byte.ensures
 
-returns-3 : tie.Need-returns-3
+returns-3 : tie.Need-returns
 returns-3 c =
-    let w = c.before.before.before.before.before.args.word.now in
-    let at = c.before.before.before.before.before.args.at in
+    let w = c.args.word.now in
+    let at = c.args.at in
     let more : at < length w = omega arith in
-    rw (byte_inside w at more, ne_eqb (get_or w at 0) 92 c.before.if2.false) (search rules)
+    rw (byte_inside w at more, ne_eqb (get_or w at 0) 92 c.if-word-at-eq-BACKSLASH.false) (search rules)
 
 pub byte_at_spec : {M : Type 1} → statement M
 byte_at_spec = tie.close (tie.spec returns (λ c. search rules) (λ c. search rules) hex_byte_requires returns-2 (λ c. search rules) returns-3)

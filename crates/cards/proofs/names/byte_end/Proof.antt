@@ -11,36 +11,36 @@ use borrow.Author.Rules.{rules}
 use Rattle.cards.proofs.names.byte_end.Statement.{statement}
 use Rattle.cards.proofs.names.byte_end.Tie as tie
 
-returns : tie.Need-returns
-returns c = sym (end-over c.before.before.args.word.now c.before.before.args.at (omega arith))
+returns : tie.Need-returns-then-word-at
+returns c = sym (end-over c.args.word.now c.args.at (omega arith))
 
-returns-2 : tie.Need-returns-2
+returns-2 : tie.Need-returns-then-is_escape
 returns-2 c =
-    let w = c.before.before.before.before.before.before.args.word.now in
-    let at = c.before.before.before.before.before.before.args.at in
+    let w = c.args.word.now in
+    let at = c.args.at in
     let more : at < length w = omega arith in
-    rw (end-inside w at more, eq-eqb (get_or w at 0) 92 c.before.before.if2.true, sym c.before.is-escape.ensures ∙ c.if3.true)
+    rw (end-inside w at more, eq-eqb (get_or w at 0) 92 c.if-word-at-eq-BACKSLASH.true, sym c.is_escape.ensures ∙ c.if-is_escape.true)
 
-returns-3 : tie.Need-returns-3
+returns-3 : tie.Need-returns-then-word-at-eq-BACKSLASH
 returns-3 c =
-    let w = c.before.before.before.before.before.before.args.word.now in
-    let at = c.before.before.before.before.before.before.args.at in
+    let w = c.args.word.now in
+    let at = c.args.at in
     let more : at < length w = omega arith in
-    rw (end-inside w at more, eq-eqb (get_or w at 0) 92 c.before.before.if2.true, sym c.before.is-escape.ensures ∙ c.if3.false)
+    rw (end-inside w at more, eq-eqb (get_or w at 0) 92 c.if-word-at-eq-BACKSLASH.true, sym c.is_escape.ensures ∙ c.if-is_escape.false)
 
-returns-4 : tie.Need-returns-4
+returns-4 : tie.Need-returns-then-word-at-le126
 returns-4 c =
-    let w = c.before.before.before.before.before.before.args.word.now in
-    let at = c.before.before.before.before.before.before.args.at in
+    let w = c.args.word.now in
+    let at = c.args.at in
     let more : at < length w = omega arith in
-    rw (end-inside w at more, ne_eqb (get_or w at 0) 92 c.before.before.if2.false, le-leb (get_or w at 0) 126 (omega arith))
+    rw (end-inside w at more, ne_eqb (get_or w at 0) 92 c.if-word-at-eq-BACKSLASH.false, le-leb (get_or w at 0) 126 (omega arith))
 
-returns-5 : tie.Need-returns-5
+returns-5 : tie.Need-returns
 returns-5 c =
-    let w = c.before.before.before.before.before.before.args.word.now in
-    let at = c.before.before.before.before.before.before.args.at in
+    let w = c.args.word.now in
+    let at = c.args.at in
     let more : at < length w = omega arith in
-    rw (end-inside w at more, ne_eqb (get_or w at 0) 92 c.before.before.if2.false, lt-leb (get_or w at 0) 126 (omega arith))
+    rw (end-inside w at more, ne_eqb (get_or w at 0) 92 c.if-word-at-eq-BACKSLASH.false, lt-leb (get_or w at 0) 126 (omega arith))
 
 pub byte_end_spec : {M : Type 1} → statement M
 byte_end_spec = tie.close (tie.spec returns (λ c. search rules) (λ c. search rules) (λ c κs. search rules) (λ c. search rules) returns-2 returns-3 (λ c. search rules) (λ c. search rules) returns-4 returns-5)

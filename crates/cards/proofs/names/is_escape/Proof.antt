@@ -12,24 +12,24 @@ use borrow.Author.Rules.{rules}
 use Rattle.cards.proofs.names.is_escape.Statement.{statement}
 use Rattle.cards.proofs.names.is_escape.Tie as tie
 
-returns : tie.Need-returns
-returns c = rw (escape_at c.before.before.before.args.word.now c.before.before.before.args.at, ne_eqb (get_or c.before.before.before.args.word.now c.before.before.before.args.at 0) 120 (λ e. c.if1.true (c.before.byte_of.ensures ∙ e)))
+returns : tie.Need-returns-then-byte_of-ne120
+returns c = rw (escape_at c.args.word.now c.args.at, ne_eqb (get_or c.args.word.now c.args.at 0) 120 (λ e. c.if-byte_of-ne120.true (c.byte_of.ensures ∙ e)))
 
-returns-2 : tie.Need-returns-2
+returns-2 : tie.Need-returns-then-not-is_hex
 returns-2 c =
-    let w = c.before.before.before.before.before.before.args.word.now in
-    let at = c.before.before.before.before.before.before.args.at in
-    let first : get_or w at 0 ≡ 120 = sym c.before.before.before.before.byte_of.ensures ∙ c.before.before.before.if1.false in
-    let second : is_hex (get_or w (at + 1) 0) ≡ false = sym (c.before.is-hex.ensures ∙ ap is_hex c.before.before.byte-of2.ensures) ∙ not-true _ c.if2.true in
+    let w = c.args.word.now in
+    let at = c.args.at in
+    let first : get_or w at 0 ≡ 120 = sym c.byte_of.ensures ∙ c.if-byte_of-ne120.false in
+    let second : is_hex (get_or w (at + 1) 0) ≡ false = sym (c.is_hex.ensures ∙ ap is_hex c.byte_of-2.ensures) ∙ not-true _ c.if-not-is_hex.true-raw in
     rw (escape_at w at, eq-eqb (get_or w at 0) 120 first, second)
 
-returns-3 : tie.Need-returns-3
+returns-3 : tie.Need-returns
 returns-3 c =
-    let w = c.before.before.before.before.before.before.before.before.args.word.now in
-    let at = c.before.before.before.before.before.before.before.before.args.at in
-    let first : get_or w at 0 ≡ 120 = sym c.before.before.before.before.before.before.byte_of.ensures ∙ c.before.before.before.before.before.if1.false in
-    let second : is_hex (get_or w (at + 1) 0) ≡ true = sym (c.before.before.before.is-hex.ensures ∙ ap is_hex c.before.before.before.before.byte-of2.ensures) ∙ not-false _ c.before.before.if2.false in
-    rw (escape_at w at, eq-eqb (get_or w at 0) 120 first, second) (c.is-hex2.ensures ∙ ap is_hex c.before.byte-of3.ensures)
+    let w = c.args.word.now in
+    let at = c.args.at in
+    let first : get_or w at 0 ≡ 120 = sym c.byte_of.ensures ∙ c.if-byte_of-ne120.false in
+    let second : is_hex (get_or w (at + 1) 0) ≡ true = sym (c.is_hex.ensures ∙ ap is_hex c.byte_of-2.ensures) ∙ not-false _ c.if-not-is_hex.false-raw in
+    rw (escape_at w at, eq-eqb (get_or w at 0) 120 first, second) (c.is_hex-2.ensures ∙ ap is_hex c.byte_of-3.ensures)
 
 pub is_escape_spec : {M : Type 1} → statement M
 is_escape_spec = tie.close (tie.spec (λ c κs. search rules) returns (λ c. search rules) (λ c κs. search rules) (λ c κs. search rules) returns-2 (λ c. search rules) (λ c κs. search rules) (λ c κs. search rules) returns-3)

@@ -12,50 +12,50 @@ use borrow.Author.Rules.{rules}
 use Rattle.cards.proofs.names.is_name.Statement.{statement}
 use Rattle.cards.proofs.names.is_name.Tie as tie
 
-abbrev invariant-loop : tie.invariant-loop
+abbrev invariant-loop : tie.invariant-loop-k
 invariant-loop word at₀ k₀ at k = (at ≤ length word) × (k ≤ 8) × (is_name 8 word ≡ is_name (8 - k) (drop at word))
 
-abbrev decreases-loop : tie.decreases-loop
+abbrev decreases-loop : tie.decreases-loop-k
 decreases-loop word at₀ k₀ at k = 8 - k
 
-loop-holds : tie.Need-loop-init invariant-loop decreases-loop
+loop-holds : tie.Need-loop-k-init invariant-loop decreases-loop
 loop-holds c = (omega arith, omega arith, refl)
 
-returns : tie.Need-returns invariant-loop decreases-loop
+returns : tie.Need-returns-then-word-at invariant-loop decreases-loop
 returns c =
-    let w = c.before.before.before.before.args.word.now in
-    let l = c.before.before.loop in
+    let w = c.args.word.now in
+    let l = c.loop-k in
     let one : 8 - l.k ≡ suc (7 - l.k) = omega arith in
     sym (l.invariant.2 ∙ ap (λ j. is_name j (drop l.at w)) one ∙ name-over w l.at (7 - l.k) (omega arith))
 
-returns-2 : tie.Need-returns-2 invariant-loop decreases-loop
+returns-2 : tie.Need-returns-then-next-at invariant-loop decreases-loop
 returns-2 c =
-    let w = c.before.before.before.before.before.before.args.word.now in
-    let l = c.before.before.before.before.loop in
+    let w = c.args.word.now in
+    let l = c.loop-k in
     let more : l.at < length w = omega arith in
     let one : 8 - l.k ≡ suc (7 - l.k) = omega arith in
-    let same : byte_end w l.at ≡ l.at = sym c.before.byte-end.ensures ∙ c.if2.true in
+    let same : byte_end w l.at ≡ l.at = sym c.byte_end-next.ensures ∙ c.if-next-at.true in
     sym (l.invariant.2 ∙ ap (λ j. is_name j (drop l.at w)) one ∙ name-turn w l.at more (7 - l.k) ∙ rw (eq-eqb (byte_end w l.at) l.at same))
 
-loop-again : tie.Need-loop-preserved invariant-loop decreases-loop
+loop-again : tie.Need-loop-k-preserved invariant-loop decreases-loop
 loop-again c =
-    let w = c.before.before.before.before.before.before.args.word.now in
-    let l = c.before.before.before.before.loop in
+    let w = c.args.word.now in
+    let l = c.loop-k in
     let more : l.at < length w = omega arith in
     let one : 8 - l.k ≡ suc (7 - l.k) = omega arith in
     let less : 7 - l.k ≡ 8 - (l.k + 1) = omega arith in
-    let is = c.before.byte-end.ensures in
-    let other : byte_end w l.at ≡ l.at → ⊥ = λ e. c.if2.false (is ∙ e) in (
+    let is = c.byte_end-next.ensures in
+    let other : byte_end w l.at ≡ l.at → ⊥ = λ e. c.if-next-at.false (is ∙ e) in (
       omega (arith, is, end-most w l.at more),
       omega arith,
       l.invariant.2 ∙ ap (λ j. is_name j (drop l.at w)) one ∙ name-turn w l.at more (7 - l.k) ∙ rw (ne_eqb (byte_end w l.at) l.at other)
           (ap₂ (λ j e. is_name j (drop e w)) less (sym is)),
     )
 
-returns-3 : tie.Need-returns-3 invariant-loop decreases-loop
+returns-3 : tie.Need-returns invariant-loop decreases-loop
 returns-3 c =
-    let w = c.before.before.before.args.word.now in
-    let l = c.before.loop in
+    let w = c.args.word.now in
+    let l = c.loop-k in
     let none : 8 - l.k ≡ 0 = omega arith in
     search (sym (l.invariant.2 ∙ ap (λ j. is_name j (drop l.at w)) none ∙ name-end w l.at l.invariant.0))
 

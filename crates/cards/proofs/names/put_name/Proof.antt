@@ -15,50 +15,50 @@ use borrow.Author.Rules.{rules}
 use Rattle.cards.proofs.names.put_name.Statement.{statement}
 use Rattle.cards.proofs.names.put_name.Tie as tie
 
-abbrev invariant-loop : tie.invariant-loop
+abbrev invariant-loop : tie.invariant-loop-k
 invariant-loop out₀ start word place₀ at₀ k₀ out place at k = (at ≤ length word) × (k ≤ 8) × (length out ≡ length out₀) × (is_name (8 - k) (drop at word) ≡ true)
     × (write out place (name_of (8 - k) (drop at word)) ≡ write out₀ start (name_of 8 word))
 
-abbrev decreases-loop : tie.decreases-loop
+abbrev decreases-loop : tie.decreases-loop-k
 decreases-loop out₀ start word place₀ at₀ k₀ out place at k = 8 - k
 
-loop-holds : tie.Need-loop-init invariant-loop decreases-loop
-loop-holds c = (omega arith, omega arith, refl, c.before.before.requires.0, refl)
+loop-holds : tie.Need-loop-k-init invariant-loop decreases-loop
+loop-holds c = (omega arith, omega arith, refl, c.requires.0, refl)
 
-byte_at_requires : tie.Need-byte-at-requires invariant-loop decreases-loop
+byte_at_requires : tie.Need-byte_at-requires invariant-loop decreases-loop
 byte_at_requires c κs =
-    let w = c.before.before.before.before.before.args.word.now in
-    let l = c.before.before.loop in
+    let w = c.args.word.now in
+    let l = c.loop-k in
     let one : 8 - l.k ≡ suc (7 - l.k) = omega arith in
-    (c.before.before.before.before.before.requires.1, name-later w l.at (7 - l.k) l.invariant.0 (ap (λ j. is_name j (drop l.at w)) (sym one) ∙ l.invariant.3))
+    (c.requires.1, name-later w l.at (7 - l.k) l.invariant.0 (ap (λ j. is_name j (drop l.at w)) (sym one) ∙ l.invariant.3))
 
-loop-again : tie.Need-loop-preserved invariant-loop decreases-loop
+loop-again : tie.Need-loop-k-preserved invariant-loop decreases-loop
 loop-again c =
-    let w = c.before.before.before.before.before.before.before.before.before.before.args.word.now in
-    let l = c.before.before.before.before.before.before.before.loop in
+    let w = c.args.word.now in
+    let l = c.loop-k in
     let one : 8 - l.k ≡ suc (7 - l.k) = omega arith in
     let less : 7 - l.k ≡ 8 - (l.k + 1) = omega arith in
     let is = ap (λ j. is_name j (drop l.at w)) (sym one) ∙ l.invariant.3 in
-    let end = c.byte-end.ensures in
-    let left = name_of (8 - (l.k + 1)) (drop c.byte-end.result w) in (
+    let end = c.byte_end-at.ensures in
+    let left = name_of (8 - (l.k + 1)) (drop c.byte_end-at.result w) in (
       omega (arith, end, name-within w l.at (7 - l.k) l.invariant.0 is),
       omega arith,
-      kept c.before.before.before.put_byte.ensures ∙ l.invariant.2,
+      kept c.put_byte-place.ensures ∙ l.invariant.2,
       ap₂ (λ j e. is_name j (drop e w)) (sym less) end ∙ name-more w l.at (7 - l.k) l.invariant.0 is,
-      onward left c.before.before.before.put_byte.ensures
-          ∙ ap (λ b. write l.out l.place (b ∷ left)) c.before.before.before.before.byte_at.ensures
+      onward left c.put_byte-place.ensures
+          ∙ ap (λ b. write l.out l.place (b ∷ left)) c.byte_at.ensures
           ∙ ap (λ t. write l.out l.place (byte_at w l.at ∷ t)) (ap₂ (λ j e. name_of j (drop e w)) (sym less) end)
           ∙ ap (write l.out l.place) (sym (bytes-more w l.at (7 - l.k) l.invariant.0 is) ∙ ap (λ j. name_of j (drop l.at w)) (sym one))
           ∙ l.invariant.4,
     )
 
-same_length : tie.Need-same-length invariant-loop decreases-loop
-same_length c = c.before.loop.invariant.2
+same_length : tie.Need-shape_of-out invariant-loop decreases-loop
+same_length c = c.loop-k.invariant.2
 
 returns : tie.Need-returns invariant-loop decreases-loop
 returns c =
-    let w = c.before.before.before.before.args.word.now in
-    let l = c.before.loop in
+    let w = c.args.word.now in
+    let l = c.loop-k in
     let none : 8 - l.k ≡ 0 = omega arith in
     arrived (ap (write l.out l.place) (sym (ap (λ j. name_of j (drop l.at w)) none ∙ bytes-none (drop l.at w))) ∙ l.invariant.4)
 

@@ -8,12 +8,12 @@ use borrow.Author.Rules.{rules}
 use Rattle.cards.proofs.numerals.is_int32.Statement.{statement}
 use Rattle.cards.proofs.numerals.is_int32.Tie as tie
 
-returns : tie.Need-returns
-returns c = int_low c.before.args.number (ap (λ x. lt_z x (negsuc 2147483647)) (sym (to_z-of_z c.before.ranges.number)) ∙ c.if1.true)
+returns : tie.Need-returns-then-number-ltminus2147483648
+returns c = int_low c.args.number (ap (λ x. lt_z x (negsuc 2147483647)) (sym (to_z-of_z c.ranges.number)) ∙ c.if-number-ltminus2147483648.true)
 
-returns-2 : tie.Need-returns-2
-returns-2 c = ap (λ x. le_z x (pos 2147483647)) (to_z-of_z c.before.ranges.number)
-    ∙ int_high c.before.args.number (ap (λ x. lt_z x (negsuc 2147483647)) (sym (to_z-of_z c.before.ranges.number)) ∙ c.if1.false)
+returns-2 : tie.Need-returns
+returns-2 c = ap (λ x. le_z x (pos 2147483647)) (to_z-of_z c.ranges.number)
+    ∙ int_high c.args.number (ap (λ x. lt_z x (negsuc 2147483647)) (sym (to_z-of_z c.ranges.number)) ∙ c.if-number-ltminus2147483648.false)
 
 pub is_int32_spec : {M : Type 1} → statement M
 is_int32_spec = tie.close (tie.spec returns returns-2)

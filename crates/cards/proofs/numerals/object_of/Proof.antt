@@ -7,13 +7,13 @@ use borrow.Author.Rules.{rules}
 use Rattle.cards.proofs.numerals.object_of.Statement.{statement}
 use Rattle.cards.proofs.numerals.object_of.Tie as tie
 
-returns : tie.Need-returns
+returns : tie.Need-returns-then-same
 unfolding object_of ascii
-returns c = rw (sym c.before.same.ensures ∙ c.if1.true)
+returns c = rw (sym c.same.ensures ∙ c.if-same.true)
 
-returns-2 : tie.Need-returns-2
+returns-2 : tie.Need-returns
 unfolding object_of ascii
-returns-2 c = rw (sym c.before.before.same.ensures ∙ c.before.if1.false) c.number.ensures
+returns-2 c = rw (sym c.same.ensures ∙ c.if-same.false) c.number.ensures
 
 pub object_of_spec : {M : Type 1} → statement M
-object_of_spec = tie.close (tie.spec (λ c. search rules) (λ c κs. search rules) returns (λ c κs. search rules) returns-2)
+object_of_spec = tie.close (tie.spec (λ c κs. search rules) returns (λ c κs. search rules) returns-2)

@@ -8,22 +8,21 @@ use Rattle.cards.proofs.optional.Parts.{body-none, body-some}
 use Rattle.cards.proofs.optional.put_body.Statement.{statement}
 use Rattle.cards.proofs.optional.put_body.Tie as tie
 
-returns : tie.Need-returns
+returns : tie.Need-returns-then-body-eq0
 unfolding ascii
 returns c =
-    let body = c.before.before.before.before.before.before.before.before.args.body.now in
-    named c.before.before.put-text.ensures (rw (sym (body-none body (omega arith))) (search rules))
+    let body = c.args.body.now in
+    named c.put_text.ensures (rw (sym (body-none body (omega arith))) (search rules))
 
-returns-2 : tie.Need-returns-2
+returns-2 : tie.Need-returns-else-body-eq0
 returns-2 c =
-    let body = c.before.before.before.before.before.before.before.args.body.now in
-    named c.before.before.put-hex-texts.ensures (rw (sym (body-some body (λ e. omega arith))) (search rules))
+    let body = c.args.body.now in
+    named c.put_hex_texts.ensures (rw (sym (body-some body (λ e. omega arith))) (search rules))
 
 pub put_body_spec : {M : Type 1} → statement M
 put_body_spec =
     tie.close
     (tie.spec
-    (λ c. search rules)
     (λ c κs. tt)
     (λ c κs. tt)
     (λ c. search rules)

@@ -16,24 +16,22 @@ use Rattle.cards.proofs.optional.put_each_name.Tie as tie
 abbrev spaced_name : List ℕ → ℕ → ℕ → List ℕ
 spaced_name file start i = 32 ∷ name_text (name_at file start i)
 
-abbrev invariant-loop : tie.invariant-loop
+abbrev invariant-loop : tie.invariant-loop-i
 invariant-loop out₀ at file start count place₀ i₀ out place i = (i ≤ count) × Wrote out₀ at (each i (spaced_name file start)) out place
 
-abbrev decreases-loop : tie.decreases-loop
+abbrev decreases-loop : tie.decreases-loop-i
 decreases-loop out₀ at file start count place₀ i₀ out place i = count - i
 
-loop-again : tie.Need-loop-preserved invariant-loop decreases-loop
+loop-again : tie.Need-loop-i-preserved invariant-loop decreases-loop
 loop-again c =
-    let put = c.before.before in
-    let turn = put.before.before.before in
-    let a = turn.before.before.before.args in
-    (omega arith, more-lines (spaced_name a.file.now a.start) turn.loop.i turn.loop.invariant.1 (named put.put-name-at.ensures (search rules)))
+    let a = c.args in
+    (omega arith, more-lines (spaced_name a.file.now a.start) c.loop-i.i c.loop-i.invariant.1 (named c.put_name_at-place.ensures (search rules)))
 
 returns : tie.Need-returns invariant-loop decreases-loop
 returns c =
-    let a = c.before.before.before.before.args in
-    let e : c.before.loop.i ≡ a.count = omega arith in
-    named c.before.loop.invariant.1 (λ j. each (e j) (spaced_name a.file.now a.start))
+    let a = c.args in
+    let e : c.loop-i.i ≡ a.count = omega arith in
+    named c.loop-i.invariant.1 (λ j. each (e j) (spaced_name a.file.now a.start))
 
 pub put_each_name_spec : {M : Type 1} → statement M
 put_each_name_spec =
@@ -44,9 +42,9 @@ put_each_name_spec =
     (λ c. (omega arith, no_lines _ _ _))
     (λ c. omega arith)
     (λ c. omega arith)
-    (λ c κs. omega (arith, c.before.before.before.before.before.requires))
+    (λ c κs. omega (arith, c.requires))
     (λ c. omega arith)
     (λ c. omega arith)
     loop-again
-    (λ c. kept c.before.loop.invariant.1)
+    (λ c. kept c.loop-i.invariant.1)
     returns)

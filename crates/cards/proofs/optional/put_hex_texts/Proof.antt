@@ -12,23 +12,20 @@ use Rattle.cards.proofs.optional.Parts.{hex_none, more_hex}
 use Rattle.cards.proofs.optional.put_hex_texts.Statement.{statement}
 use Rattle.cards.proofs.optional.put_hex_texts.Tie as tie
 
-abbrev invariant-loop : tie.invariant-loop
+abbrev invariant-loop : tie.invariant-loop-i
 invariant-loop out₀ at bytes place₀ i₀ out place i = (i ≤ length bytes) × Wrote out₀ at (hex_texts (take i bytes)) out place
 
-abbrev decreases-loop : tie.decreases-loop
+abbrev decreases-loop : tie.decreases-loop-i
 decreases-loop out₀ at bytes place₀ i₀ out place i = length bytes - i
 
-loop-again : tie.Need-loop-preserved invariant-loop decreases-loop
+loop-again : tie.Need-loop-i-preserved invariant-loop decreases-loop
 loop-again c =
-    let put = c.before.before in
-    let turn = put.before.before.before.before in
-    let start = turn.before.before.before in
-    (omega arith, more_hex start.args.bytes.now turn.loop.i (omega arith) turn.loop.invariant.1 (named put.put-hex.ensures (search rules)))
+    (omega arith, more_hex c.args.bytes.now c.loop-i.i (omega arith) c.loop-i.invariant.1 (named c.put_hex-place.ensures (search rules)))
 
 returns : tie.Need-returns invariant-loop decreases-loop
 returns c =
-    let bytes = c.before.before.before.before.args.bytes.now in
-    named c.before.loop.invariant.1 (ap hex_texts (take_all c.before.loop.i bytes (omega arith)))
+    let bytes = c.args.bytes.now in
+    named c.loop-i.invariant.1 (ap hex_texts (take_all c.loop-i.i bytes (omega arith)))
 
 pub put_hex_texts_spec : {M : Type 1} → statement M
 put_hex_texts_spec =
@@ -42,5 +39,5 @@ put_hex_texts_spec =
     (λ c. omega arith)
     (λ c. omega arith)
     loop-again
-    (λ c. kept c.before.loop.invariant.1)
+    (λ c. kept c.loop-i.invariant.1)
     returns)

@@ -10,22 +10,18 @@ use Rattle.cards.proofs.optional.put_name_at.Statement.{statement}
 use Rattle.cards.proofs.optional.put_name_at.Tie as tie
 
 -- the part lies within the file
-within : (c : tie.After-put-name-arg) →
-    (c.before.before.before.before.before.before.lower.result ≤ c.before.before.before.before.before.lower2.result)
-    × (c.before.before.before.before.before.lower2.result ≤ length c.before.before.before.before.before.before.before.before.before.args.file.now)
+within : (c : tie.After-put_name-arg-1) →
+    (c.lower-start.result ≤ c.lower-end.result)
+    × (c.lower-end.result ≤ length c.args.file.now)
 within c =
-    let high = c.before.before.before.before.before in
-    let a = high.before.before.before.before.args in
-    part-inside a.file.now a.place 8 _ _ _ high.before.lower.ensures high.lower2.ensures refl
+    let a = c.args in
+    part-inside a.file.now a.place 8 _ _ _ c.lower-start.ensures c.lower-end.ensures refl
 
 returns : tie.Need-returns
 returns c =
-    let put = c.before.before in
-    let space = put.before.before.before.before.before in
-    let high = space.before.before in
-    let a = high.before.before.before.before.args in
-    named (space.put_byte.ensures then put.put-name.ensures)
-    (rw (part-found a.file.now a.place 8 _ _ _ high.before.lower.ensures high.lower2.ensures refl) (search rules))
+    let a = c.args in
+    named (c.put_byte-next.ensures then c.put_name.ensures)
+    (rw (part-found a.file.now a.place 8 _ _ _ c.lower-start.ensures c.lower-end.ensures refl) (search rules))
 
 pub put_name_at_spec : {M : Type 1} → statement M
 put_name_at_spec =

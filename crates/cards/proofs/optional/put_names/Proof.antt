@@ -7,26 +7,22 @@ use Rattle.meaning.specs.Text.{ascii}
 use Rattle.cards.proofs.optional.put_names.Statement.{statement}
 use Rattle.cards.proofs.optional.put_names.Tie as tie
 
-returns : tie.Need-returns
+returns : tie.Need-returns-then-start-eq0
 returns c =
-    let a = c.before.before.before.args in
+    let a = c.args in
     named (nothing _ _) (rw (eq-eqb a.start 0 (omega arith)) (search rules))
 
-returns-2 : tie.Need-returns-2
+returns-2 : tie.Need-returns
 unfolding ascii
 returns-2 c =
-    let c3 = c.before.before in
-    let c2 = c3.before.before.before.before in
-    let c1 = c2.before.before.before.before in
-    let a = c1.before.before.before.before.before.before.args in
-    named (c1.put-text.ensures then c2.put-each-name.ensures then c3.put_byte.ensures) (rw (ne_eqb a.start 0 (λ e. omega arith)) (search rules))
+    let a = c.args in
+    named (c.put_text-word_end.ensures then c.put_each_name-names_end.ensures then c.put_byte.ensures) (rw (ne_eqb a.start 0 (λ e. omega arith)) (search rules))
 
 pub put_names_spec : {M : Type 1} → statement M
 put_names_spec =
     tie.close
     (tie.spec
     returns
-    (λ c. search rules)
     (λ c κs. tt)
     (λ c κs. search rules)
     (λ c κs. tt)

@@ -8,20 +8,18 @@ use Rattle.cards.proofs.optional.Parts.{Goes, goes_first, goes_on, goes_last}
 use Rattle.cards.proofs.optional.put_others.Statement.{statement}
 use Rattle.cards.proofs.optional.put_others.Tie as tie
 
-abbrev invariant-loop : tie.invariant-loop
+abbrev invariant-loop : tie.invariant-loop-field
 invariant-loop out₀ at file start place₀ field₀ out place field = Goes file start out₀ at out place field
 
-abbrev decreases-loop : tie.decreases-loop
+abbrev decreases-loop : tie.decreases-loop-field
 decreases-loop out₀ at file start place₀ field₀ out place field = length file - field
 
-loop-again : tie.Need-loop-preserved invariant-loop decreases-loop
+loop-again : tie.Need-loop-field-preserved invariant-loop decreases-loop
 loop-again c =
-    let put = c.before.before.before in
-    let turn = put.before.before.before in
-    rw c.two_bytes.ensures (goes_on turn.before.before.before.args.file.now put.before.before.loop-test.true turn.loop.invariant put.put_other.ensures)
+    rw c.two_bytes.ensures (goes_on c.args.file.now c.loop-field-test.true c.loop-field.invariant c.put_other-place.ensures)
 
 returns : tie.Need-returns invariant-loop decreases-loop
-returns c = goes_last c.before.before.before.before.args.file.now (omega arith) c.before.loop.invariant
+returns c = goes_last c.args.file.now (omega arith) c.loop-field.invariant
 
 pub put_others_spec : {M : Type 1} → statement M
 put_others_spec =
@@ -30,13 +28,13 @@ put_others_spec =
     invariant-loop
     decreases-loop
     (λ c. goes_first _ _ _ _)
-    (λ c κs. omega (arith, c.before.before.before.before.before.requires))
-    (λ c. omega (arith, c.before.before.before.before.before.before.before.before.requires))
-    (λ c. omega (arith, c.before.before.before.before.before.before.before.before.requires))
+    (λ c κs. omega (arith, c.requires))
+    (λ c. omega (arith, c.requires))
+    (λ c. omega (arith, c.requires))
     (λ c κs. search rules)
     (λ c. search rules)
-    (λ c. omega (arith, c.before.before.before.before.before.before.before.before.before.requires))
+    (λ c. omega (arith, c.requires))
     (λ c. omega arith)
     loop-again
-    (λ c. kept c.before.loop.invariant.wrote)
+    (λ c. kept c.loop-field.invariant.wrote)
     returns)

@@ -10,32 +10,32 @@ use borrow.Author.Rules.{rules}
 use Rattle.cards.proofs.places.column_of.Statement.{statement}
 use Rattle.cards.proofs.places.column_of.Tie as tie
 
-abbrev invariant-loop : tie.invariant-loop
+abbrev invariant-loop : tie.invariant-loop-k
 invariant-loop card place column₀ k₀ column k = (k ≤ length card) × (k ≤ place) × (column ≤ k + 1) × (column_from column (take (place - k) (drop k card)) ≡ column_at card place)
 
-abbrev decreases-loop : tie.decreases-loop
+abbrev decreases-loop : tie.decreases-loop-k
 decreases-loop card place column₀ k₀ column k = length card - k
 
-loop-holds : tie.Need-loop-init invariant-loop decreases-loop
-loop-holds c = let all : c.before.args.place - 0 ≡ c.before.args.place = omega arith in (omega arith, omega arith, omega arith, search (ap (λ n. column_from 1 (take n c.before.args.card.now)) all))
+loop-holds : tie.Need-loop-k-init invariant-loop decreases-loop
+loop-holds c = let all : c.args.place - 0 ≡ c.args.place = omega arith in (omega arith, omega arith, omega arith, search (ap (λ n. column_from 1 (take n c.args.card.now)) all))
 
-returns : tie.Need-returns invariant-loop decreases-loop
+returns : tie.Need-returns-then-k-place invariant-loop decreases-loop
 returns c =
-    let l = c.before.before.loop in
-    let none : c.before.before.before.before.args.place - l.k ≡ 0 = omega (arith, c.if1.true) in
-    column-here c.before.before.before.before.args.card.now c.before.before.before.before.args.place l.k l.column none l.invariant.3
+    let l = c.loop-k in
+    let none : c.args.place - l.k ≡ 0 = omega (arith, c.if-k-place.true) in
+    column-here c.args.card.now c.args.place l.k l.column none l.invariant.3
 
-loop-again : tie.Need-loop-preserved invariant-loop decreases-loop
+loop-again : tie.Need-loop-k-preserved invariant-loop decreases-loop
 loop-again c =
-    let l = c.before.before.before.before.loop in
-    let s = c.before.before.before.before.before.before.args.card.now in
+    let l = c.loop-k in
+    let s = c.args.card.now in
     let here : l.k < length s = omega arith in
-    let before : l.k < c.before.before.before.before.before.before.args.place = omega (arith, c.before.before.if1.false) in
-    let turn = column-turn s c.before.before.before.before.before.before.args.place l.k l.column c.next-column.result here before c.next-column.ensures in
+    let before : l.k < c.args.place = omega (arith, c.if-k-place.false) in
+    let turn = column-turn s c.args.place l.k l.column c.next_column-column.result here before c.next_column-column.ensures in
     (omega arith, omega arith, omega (arith, turn.1), turn.0 ∙ l.invariant.3)
 
-returns-2 : tie.Need-returns-2 invariant-loop decreases-loop
-returns-2 c = column-end c.before.before.before.args.card.now c.before.before.before.args.place c.before.loop.k c.before.loop.column (omega arith) c.before.loop.invariant.3
+returns-2 : tie.Need-returns invariant-loop decreases-loop
+returns-2 c = column-end c.args.card.now c.args.place c.loop-k.k c.loop-k.column (omega arith) c.loop-k.invariant.3
 
 pub column_of_spec : {M : Type 1} → statement M
 column_of_spec = tie.close (tie.spec invariant-loop decreases-loop loop-holds returns (λ c. search rules) (λ c κs. search rules) (λ c. search rules) (λ c. search rules) loop-again returns-2)

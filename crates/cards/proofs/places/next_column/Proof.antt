@@ -6,11 +6,11 @@ use borrow.Author.Rules.{rules}
 use Rattle.cards.proofs.places.next_column.Statement.{statement}
 use Rattle.cards.proofs.places.next_column.Tie as tie
 
-returns : tie.Need-returns
-returns c = rw (eq-eqb c.before.args.byte 10 c.if1.true) (search rules)
+returns : tie.Need-returns-then-byte-eq10
+returns c = rw (eq-eqb c.args.byte 10 c.if-byte-eq10.true) (search rules)
 
-returns-2 : tie.Need-returns-2
-returns-2 c = rw (ne_eqb c.before.args.byte 10 c.if1.false) (search rules)
+returns-2 : tie.Need-returns
+returns-2 c = rw (ne_eqb c.args.byte 10 c.if-byte-eq10.false) (search rules)
 
 pub next_column_spec : {M : Type 1} → statement M
 next_column_spec = tie.close (tie.spec returns (λ c. search rules) returns-2)

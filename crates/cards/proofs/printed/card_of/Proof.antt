@@ -16,23 +16,21 @@ use Rattle.cards.proofs.printed.card_of.Statement.{statement}
 use Rattle.cards.proofs.printed.card_of.Tie as tie
 
 -- what reading told
-module _ (c : tie.After-read) where
+module _ (c : tie.After-read-read) where
   abbrev file : List ℕ
-  file = c.before.before.before.args.bytes.now
+  file = c.args.bytes.now
 
-  verdict : c.read.result.verdict ≡ read_verdict file
-  verdict = ap (λ (k : JobRead). k.verdict) c.read.ensures
+  verdict : c.read-read.result.verdict ≡ read_verdict file
+  verdict = ap (λ (k : JobRead). k.verdict) c.read-read.ensures
 
-  text : printed_text c.read.result.verdict file [] 0 0 ≡ card_text_of file
+  text : printed_text c.read-read.result.verdict file [] 0 0 ≡ card_text_of file
   text = ap (λ (v : Verdict). printed_text v file [] 0 0) verdict ∙ first-printed file
 
 returns : tie.Need-returns
 returns c =
-    let put = c.before.before in
-    let read = put.before.before.before in
-    let out = read.before.before.before.args.out.now in (
-      search put.render.ensures.0 ∙ (λ j. text_answer (text read j) (length out)),
-      search put.render.ensures.1 ∙ (λ j. text_after (text read j) out),
+    let out = c.args.out.now in (
+      search c.render.ensures.0 ∙ (λ j. text_answer (text c.before.before.before.before j) (length out)),
+      search c.render.ensures.1 ∙ (λ j. text_after (text c.before.before.before.before j) out),
     )
 
 pub card_of_spec : {M : Type 1} → statement M
@@ -41,6 +39,6 @@ card_of_spec =
     (tie.spec
     (λ c κs. search rules)
     (λ c. search rules)
-    (λ c κs e. let read = c.before.before in ((file-job (file read) (sym (verdict read) ∙ e)).0, omega arith, omega arith))
+    (λ c κs e. let read = c.before in ((file-job (file read) (sym (verdict read) ∙ e)).0, omega arith, omega arith))
     (λ c. search rules)
     returns)

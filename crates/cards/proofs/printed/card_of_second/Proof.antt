@@ -20,58 +20,55 @@ use Rattle.cards.proofs.printed.card_of_second.Statement.{statement}
 use Rattle.cards.proofs.printed.card_of_second.Tie as tie
 
 -- what reading told
-module _ (c : tie.After-read-second) where
+module _ (c : tie.After-read_second-read) where
   abbrev file : List ℕ
-  file = c.before.before.before.args.bytes.now
+  file = c.args.bytes.now
 
-  verdict : c.read-second.result.job.verdict ≡ read_verdict2 file
-  verdict = ap (λ (k : SecondRead). k.job.verdict) c.read-second.ensures
+  verdict : c.read_second-read.result.job.verdict ≡ read_verdict2 file
+  verdict = ap (λ (k : SecondRead). k.job.verdict) c.read_second-read.ensures
 
-  names : c.read-second.result.names_at ≡ names_by file (read_verdict2 file)
-  names = ap (λ (k : SecondRead). k.names_at) c.read-second.ensures
+  names : c.read_second-read.result.names_at ≡ names_by file (read_verdict2 file)
+  names = ap (λ (k : SecondRead). k.names_at) c.read_second-read.ensures
 
-  few : c.read-second.result.names_at ≤ 16387
+  few : c.read_second-read.result.names_at ≤ 16387
   few = rw names (names-most file)
 
 -- the four fields, and where the fields after the names start
-module _ (c : tie.After-lower2) where
-  abbrev end : tie.After-four-end
+module _ (c : tie.After-lower-stop) where
+  abbrev end : tie.After-four_end-end
   end = c.before.before.before
 
-  abbrev told : tie.After-read-second
+  abbrev told : tie.After-read_second-read
   told = end.before.before.before
 
-  four : take (c.lower2.result - c.before.lower.result) (drop c.before.lower.result (file told)) ≡ four_of (file told)
-  four = part-found (file told) 4 (length (four_of (file told))) _ _ _ c.before.lower.ensures c.lower2.ensures end.four-end.ensures ∙ four-part (file told)
+  four : take (c.lower-stop.result - c.lower-start.result) (drop c.lower-start.result (file told)) ≡ four_of (file told)
+  four = part-found (file told) 4 (length (four_of (file told))) _ _ _ c.lower-start.ensures c.lower-stop.ensures end.four_end-end.ensures ∙ four-part (file told)
 
-  inside : (c.before.lower.result ≤ c.lower2.result) × (c.lower2.result ≤ length (file told))
-  inside = part-inside (file told) 4 (length (four_of (file told))) _ _ _ c.before.lower.ensures c.lower2.ensures end.four-end.ensures
+  inside : (c.lower-start.result ≤ c.lower-stop.result) × (c.lower-stop.result ≤ length (file told))
+  inside = part-inside (file told) 4 (length (four_of (file told))) _ _ _ c.lower-start.ensures c.lower-stop.ensures end.four_end-end.ensures
 
-  others : c.before.before.others-at.result ≡ others_by (file told) (read_verdict2 (file told))
-  others = c.before.before.others-at.ensures ∙ (λ j.
-      let head = (told.read-second.ensures j).job.head in
-      cond (eqb (names told j) 0) (end.four-end.ensures j) (names told j + 8 * within head (objects head)))
+  others : c.others_at-others.result ≡ others_by (file told) (read_verdict2 (file told))
+  others = c.others_at-others.ensures ∙ (λ j.
+      let head = (told.read_second-read.ensures j).job.head in
+      cond (eqb (names told j) 0) (end.four_end-end.ensures j) (names told j + 8 * within head (objects head)))
 
-  text : printed_text told.read-second.result.job.verdict
-      (take (c.lower2.result - c.before.lower.result) (drop c.before.lower.result (file told))) (file told)
-      told.read-second.result.names_at c.before.before.others-at.result ≡ card_text_of2 (file told)
+  text : printed_text told.read_second-read.result.job.verdict
+      (take (c.lower-stop.result - c.lower-start.result) (drop c.lower-start.result (file told))) (file told)
+      told.read_second-read.result.names_at c.others_at-others.result ≡ card_text_of2 (file told)
   text = (λ j. printed_text (verdict told j) (four j) (file told) (names told j) (others j)) ∙ second-printed (file told)
 
 returns : tie.Need-returns
 returns c =
-    let put = c.before.before in
-    let parts = put.before.before.before in
-    let out = (told parts).before.before.before.args.out.now in (
-      search put.render.ensures.0 ∙ (λ j. text_answer (text parts j) (length out)),
-      search put.render.ensures.1 ∙ (λ j. text_after (text parts j) out),
+    let out = (told c.before.before.before.before.before).args.out.now in (
+      search c.render.ensures.0 ∙ (λ j. text_answer (text c.before.before.before.before.before j) (length out)),
+      search c.render.ensures.1 ∙ (λ j. text_after (text c.before.before.before.before.before j) out),
     )
 
 render_requires : tie.Need-render-requires
 render_requires c κs e =
-    let parts = c.before.before in
-    let s = file (told parts) in
-    let w = whole s (file_job2 s (sym (verdict (told parts)) ∙ e)).0 in
-    (rw (four parts) w.four, w.short, few (told parts))
+    let s = file (told c.before.before) in
+    let w = whole s (file_job2 s (sym (verdict (told c.before.before)) ∙ e)).0 in
+    (rw (four c.before.before) w.four, w.short, few (told c.before.before))
 
 pub card_of_second_spec : {M : Type 1} → statement M
 card_of_second_spec =

@@ -6,11 +6,11 @@ use Rattle.cards.proofs.printed.Whole.{within-most}
 use Rattle.cards.proofs.printed.others_at.Statement.{statement}
 use Rattle.cards.proofs.printed.others_at.Tie as tie
 
-returns : tie.Need-returns
-returns c = rw (eq-eqb c.before.args.names 0 (omega arith)) (search rules)
+returns : tie.Need-returns-then-names-eq0
+returns c = rw (eq-eqb c.args.names 0 (omega arith)) (search rules)
 
-returns-2 : tie.Need-returns-2
-returns-2 c = rw (ne_eqb c.before.before.args.names 0 (λ e. omega arith), c.objects.ensures) (search rules)
+returns-2 : tie.Need-returns
+returns-2 c = rw (ne_eqb c.args.names 0 (λ e. omega arith), c.objects.ensures) (search rules)
 
 pub others_at_spec : {M : Type 1} → statement M
 others_at_spec =
@@ -18,6 +18,6 @@ others_at_spec =
     (tie.spec
     returns
     (λ c κs. search rules)
-    (λ c. omega (arith, c.objects.ensures, within-most c.before.before.args.head))
-    (λ c. omega (arith, c.objects.ensures, within-most c.before.before.args.head))
+    (λ c. omega (arith, c.objects.ensures, within-most c.args.head))
+    (λ c. omega (arith, c.objects.ensures, within-most c.args.head))
     returns-2)

@@ -9,14 +9,8 @@ use Rattle.cards.proofs.printed.put_accepted.Tie as tie
 
 returns : tie.Need-returns
 returns c =
-    let c3 = c.before.before in
-    let c2 = c3.before.before.before.before in
-    let c1 = c2.before.before.before.before in
-    let count = c1.before.before in
-    let held = count.before.before in
-    let start = held.before.before.before.before in
-    named (c1.put_four.ensures then c2.put-names.ensures then c3.put-others.ensures)
-    (rw (count.objects.ensures ∙ counted start.args.four.now held.held.result held.held.ensures start.requires.0) (search rules))
+    named (c.put_four-four_end.ensures then c.put_names-names_end.ensures then c.put_others.ensures)
+    (rw (c.objects-count.ensures ∙ counted c.args.four.now c.held-held.result c.held-held.ensures c.requires.0) (search rules))
 
 pub put_accepted_spec : {M : Type 1} → statement M
 put_accepted_spec =
@@ -27,7 +21,7 @@ put_accepted_spec =
     (λ c κs. search rules)
     (λ c κs.
     let count = c.before.before.before.before.before in
-    (count.before.before.before.before.before.before.requires.2, omega (arith, count.objects.ensures, within-most count.before.before.held.result.head)))
+    (count.requires.2, omega (arith, count.objects-count.ensures, within-most count.held-held.result.head)))
     (λ c κs. search rules)
     (λ c. search rules)
     returns)

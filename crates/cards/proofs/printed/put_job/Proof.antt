@@ -10,16 +10,9 @@ use Rattle.cards.proofs.printed.put_job.Tie as tie
 
 returns : tie.Need-returns
 returns c =
-    let c5 = c.before.before in
-    let c4 = c5.before.before.before.before in
-    let count = c4.before in
-    let c3 = count.before.before.before.before in
-    let c2 = c3.before.before.before.before in
-    let c1 = c2.before.before.before.before in
-    let start = c1.before.before.before.before in
-    let head = start.args.head in
-    named (c1.put-kind.ensures then c2.put-fixed.ensures then c3.put-blocks.ensures then c4.put-restraint.ensures then c5.put-readings.ensures)
-    (rw (count.objects.ensures ∙ within-sizes head (objects head) start.requires.0, to_z-of_z start.ranges.sum, start.requires.2) (search rules))
+    let head = c.args.head in
+    named (c.put_kind-kind_end.ensures then c.put_fixed-fixed_end.ensures then c.put_blocks-blocks_end.ensures then c.put_restraint-restraint_end.ensures then c.put_readings.ensures)
+    (rw (c.objects.ensures ∙ within-sizes head (objects head) c.requires.0, to_z-of_z c.ranges.sum, c.requires.2) (search rules))
 
 pub put_job_spec : {M : Type 1} → statement M
 put_job_spec =

@@ -8,18 +8,16 @@ use Rattle.cards.proofs.printed.render.Statement.{statement}
 use Rattle.cards.proofs.printed.render.Tie as tie
 
 -- no slice is longer than a usize counts
-short : (c : tie.After-one) → length c.before.before.before.before.args.out.now < 18446744073709551615
+short : (c : tie.After-one-1) → length c.args.out.now < 18446744073709551615
 short c = omega arith
 
-returns : tie.Need-returns
-returns c = no_room _ _ (omega arith) c.before.before.put-printed.ensures (omega arith)
+returns : tie.Need-returns-then-out-length
+returns c = no_room _ _ (omega arith) c.put_printed-length.ensures (omega arith)
 
-returns-2 : tie.Need-returns-2
+returns-2 : tie.Need-returns
 returns-2 c =
-    let w = c.before.before in
-    let d = w.before.before.before.before in
-    let room = w.before.before.if1.false in
-    in_room _ _ (short d.before) d.put-printed.ensures (omega (arith, room)) w.put-printed2.ensures
+    let room = c.if-out-length.false in
+    in_room _ _ (short c.before.before.before.before.before.before.before) c.put_printed-length.ensures (omega (arith, room)) c.put_printed.ensures
 
 pub render_spec : {M : Type 1} → statement M
 render_spec =

@@ -8,28 +8,21 @@ use Rattle.cards.proofs.reading.Turning.{ended-none, ended-one}
 use Rattle.cards.proofs.reading.end_word.Statement.{statement}
 use Rattle.cards.proofs.reading.end_word.Tie as tie
 
-returns : tie.Need-returns
+returns : tie.Need-returns-then-start-k
 returns c =
-    let s = c.before.before.before in
-    let a = s.args in
-    ended-none a.text.now a.k a.wants a.len a.walk a.body.now s.requires.0 s.requires.1 s.requires.3 c.if1.true
+    let a = c.args in
+    ended-none a.text.now a.k a.wants a.len a.walk a.body.now c.requires.0 c.requires.1 c.requires.3 c.if-start-k.true
 
-take_word_requires : tie.Need-take-word-requires
+take_word_requires : tie.Need-take_word-after-requires
 take_word_requires c κs =
-    let e = c.before.before.before.before in
-    let s = e.before.before.before in
-    let long = begun-long s.args.text.now s.args.walk.start s.args.k s.requires.0 s.requires.1 in
-    (s.requires.3, omega (arith, s.requires.0, s.requires.1, s.requires.2), omega (arith, long, s.requires.0, e.if1.false), omega (arith, long, s.requires.1, s.requires.2))
+    let long = begun-long c.args.text.now c.args.walk.start c.args.k c.requires.0 c.requires.1 in
+    (c.requires.3, omega (arith, c.requires.0, c.requires.1, c.requires.2), omega (arith, long, c.requires.0, c.if-start-k.false), omega (arith, long, c.requires.1, c.requires.2))
 
-returns-2 : tie.Need-returns-2
+returns-2 : tie.Need-returns
 returns-2 c =
-    let word = c.before.before in
-    let place = word.before.before.before in
-    let e = place.before.before in
-    let s = e.before.before.before in
-    let a = s.args in
-    ended-one a.text.now a.k a.wants a.len a.walk a.body.now s.requires.0 s.requires.1 s.requires.3 e.if1.false
-    word.take-word.result place.place_of.result _ refl refl word.take-word.ensures.0 word.take-word.ensures.1 place.place_of.ensures
+    let a = c.args in
+    ended-one a.text.now a.k a.wants a.len a.walk a.body.now c.requires.0 c.requires.1 c.requires.3 c.if-start-k.false
+    c.take_word-after.result c.place_of-at.result _ refl refl c.take_word-after.ensures.0 c.take_word-after.ensures.1 c.place_of-at.ensures
 
 pub end_word_spec : {M : Type 1} → statement M
 end_word_spec =
@@ -37,9 +30,9 @@ end_word_spec =
     (tie.spec
     returns
     (λ c κs. tt)
-    (λ c. c.before.before.before.before.before.requires.0)
-    (λ c. c.before.before.before.before.before.requires.0)
-    (λ c. c.before.before.before.before.before.requires.1)
+    (λ c. c.requires.0)
+    (λ c. c.requires.0)
+    (λ c. c.requires.1)
     take_word_requires
-    (λ c. c.before.before.take-word.ensures.1.long)
+    (λ c. c.take_word-after.ensures.1.long)
     returns-2)

@@ -4,11 +4,11 @@ use borrow.Author.Tests.{lt-ltb, le-ltb}
 use Rattle.cards.proofs.reading.ends_word.Statement.{statement}
 use Rattle.cards.proofs.reading.ends_word.Tie as tie
 
-returns : tie.Need-returns
-returns c = rw (lt-ltb c.before.args.byte 33 c.if1.true)
+returns : tie.Need-returns-then-byte-lt33
+returns c = rw (lt-ltb c.args.byte 33 c.if-byte-lt33.true)
 
-returns-2 : tie.Need-returns-2
-returns-2 c = rw (le-ltb c.before.args.byte 33 c.if1.false) (search rules)
+returns-2 : tie.Need-returns
+returns-2 c = rw (le-ltb c.args.byte 33 c.if-byte-lt33.false) (search rules)
 
 pub ends_word_spec : {M : Type 1} → statement M
 ends_word_spec = tie.close (tie.spec returns returns-2)

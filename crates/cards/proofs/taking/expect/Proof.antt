@@ -9,11 +9,11 @@ use borrow.Author.Rules.{rules}
 use Rattle.cards.proofs.taking.expect.Statement.{statement}
 use Rattle.cards.proofs.taking.expect.Tie as tie
 
-returns : tie.Need-returns
-returns c = rw (sym c.before.before.same.ensures ∙ c.before.if1.true) c.next.ensures
+returns : tie.Need-returns-then-same
+returns c = rw (sym c.same.ensures ∙ c.if-same.true) c.next.ensures
 
-returns-2 : tie.Need-returns-2
-returns-2 c = rw (sym c.before.before.same.ensures ∙ c.before.if1.false) c.fail.ensures
+returns-2 : tie.Need-returns
+returns-2 c = rw (sym c.same.ensures ∙ c.if-same.false) c.fail.ensures
 
 pub expect_spec : {M : Type 1} → statement M
 expect_spec = tie.close (tie.spec (λ c κs. search rules) (λ c κs. search rules) returns (λ c κs. search rules) returns-2)

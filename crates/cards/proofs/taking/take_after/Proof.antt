@@ -10,27 +10,27 @@ use borrow.Author.Rules.{rules}
 use Rattle.cards.proofs.taking.take_after.Statement.{statement}
 use Rattle.cards.proofs.taking.take_after.Tie as tie
 
-add_if2 : tie.Need-overflow-add-if2
-add_if2 c = let s = c.before.before.before.before.before.before.before.requires.n in omega arith
+add_if2 : tie.Need-overflow_add-head
+add_if2 c = let s = c.requires.n in omega arith
 
-returns : tie.Need-returns
+returns : tie.Need-returns-then-head-eq0
 unfolding take_after ascii
-returns c = rw (sym c.before.before.before.before.before.before.same.ensures ∙ c.before.before.before.before.before.if1.true, eq-eqb (c.before.before.before.before.before.before.before.before.before.args.card.head.n + c.before.before.before.before.before.before.before.before.before.args.card.head.flag % 2) 0 c.before.if2.true) c.counting.ensures
+returns c = rw (sym c.same.ensures ∙ c.if-same.true, eq-eqb (c.args.card.head.n + c.args.card.head.flag % 2) 0 c.if-head-eq0.true) c.counting.ensures
 
-returns-2 : tie.Need-returns-2
+returns-2 : tie.Need-returns-then-same
 unfolding take_after ascii
-returns-2 c = rw (sym c.before.before.before.before.before.before.same.ensures ∙ c.before.before.before.before.before.if1.true, ne_eqb (c.before.before.before.before.before.before.before.before.before.args.card.head.n + c.before.before.before.before.before.before.before.before.before.args.card.head.flag % 2) 0 c.before.if2.false) c.counting2.ensures
+returns-2 c = rw (sym c.same.ensures ∙ c.if-same.true, ne_eqb (c.args.card.head.n + c.args.card.head.flag % 2) 0 c.if-head-eq0.false) c.counting-then-same.ensures
 
-returns-3 : tie.Need-returns-3
+returns-3 : tie.Need-returns-then-same-2
 unfolding take_after ascii
-returns-3 c = rw (sym c.before.before.before.before.before.same.ensures ∙ c.before.before.before.before.if1.false, sym c.before.before.same2.ensures ∙ c.before.if3.true) c.counting3.ensures
+returns-3 c = rw (sym c.same.ensures ∙ c.if-same.false, sym c.same-2.ensures ∙ c.if-same-2.true) c.counting-then-same-2.ensures
 
-take_reading_requires : tie.Need-take-reading-requires
-take_reading_requires c κs = c.before.before.before.before.before.before.before.requires
+take_reading_requires : tie.Need-take_reading-requires
+take_reading_requires c κs = c.requires
 
-returns-4 : tie.Need-returns-4
+returns-4 : tie.Need-returns
 unfolding take_after ascii
-returns-4 c = rw (sym c.before.before.before.before.before.same.ensures ∙ c.before.before.before.before.if1.false, sym c.before.before.same2.ensures ∙ c.before.if3.false) c.take-reading.ensures
+returns-4 c = rw (sym c.same.ensures ∙ c.if-same.false, sym c.same-2.ensures ∙ c.if-same-2.false) c.take_reading.ensures
 
 pub take_after_spec : {M : Type 1} → statement M
-take_after_spec = tie.close (tie.spec (λ c. search rules) (λ c κs. search rules) add_if2 (λ c κs. search rules) returns (λ c κs. search rules) returns-2 (λ c. search rules) (λ c κs. search rules) (λ c κs. search rules) returns-3 take_reading_requires returns-4)
+take_after_spec = tie.close (tie.spec (λ c κs. search rules) add_if2 (λ c κs. search rules) returns (λ c κs. search rules) returns-2 (λ c κs. search rules) (λ c κs. search rules) returns-3 take_reading_requires returns-4)

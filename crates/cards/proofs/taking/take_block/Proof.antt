@@ -10,17 +10,17 @@ use borrow.Author.Rules.{rules}
 use Rattle.cards.proofs.taking.take_block.Statement.{statement}
 use Rattle.cards.proofs.taking.take_block.Tie as tie
 
-returns : tie.Need-returns
+returns : tie.Need-returns-then-head-lt255
 unfolding take_block ascii
-returns c = rw (sym c.before.before.before.before.before.same.ensures ∙ c.before.before.before.before.if1.true, lt-ltb c.before.before.before.before.before.before.before.before.args.card.head.m 255 (omega arith)) c.counting.ensures
+returns c = rw (sym c.same.ensures ∙ c.if-same.true, lt-ltb c.args.card.head.m 255 (omega arith)) c.counting.ensures
 
-returns-2 : tie.Need-returns-2
+returns-2 : tie.Need-returns-then-same
 unfolding take_block ascii
-returns-2 c = rw (sym c.before.before.before.before.before.before.same.ensures ∙ c.before.before.before.before.before.if1.true, le-ltb c.before.before.before.before.before.before.before.before.before.args.card.head.m 255 (omega arith)) (c.fail.ensures ∙ ap fail c.before.next.ensures)
+returns-2 c = rw (sym c.same.ensures ∙ c.if-same.true, le-ltb c.args.card.head.m 255 (omega arith)) (c.fail.ensures ∙ ap fail c.next.ensures)
 
-returns-3 : tie.Need-returns-3
+returns-3 : tie.Need-returns
 unfolding take_block ascii
-returns-3 c = rw (sym c.before.before.before.same.ensures ∙ c.before.before.if1.false) c.expect.ensures
+returns-3 c = rw (sym c.same.ensures ∙ c.if-same.false) c.expect.ensures
 
 pub take_block_spec : {M : Type 1} → statement M
-take_block_spec = tie.close (tie.spec (λ c. search rules) (λ c κs. search rules) (λ c κs. search rules) returns (λ c κs. search rules) (λ c κs. search rules) returns-2 (λ c. search rules) (λ c κs. search rules) returns-3)
+take_block_spec = tie.close (tie.spec (λ c κs. search rules) (λ c κs. search rules) returns (λ c κs. search rules) (λ c κs. search rules) returns-2 (λ c κs. search rules) returns-3)

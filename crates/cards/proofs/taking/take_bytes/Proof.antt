@@ -10,13 +10,13 @@ use borrow.Author.Rules.{rules}
 use Rattle.cards.proofs.taking.take_bytes.Statement.{statement}
 use Rattle.cards.proofs.taking.take_bytes.Tie as tie
 
-returns : tie.Need-returns
+returns : tie.Need-returns-then-is_body
 unfolding take_bytes
-returns c = rw (sym c.before.before.is_IsBody.ensures ∙ c.before.if1.true) c.next.ensures
+returns c = rw (sym c.before.before.is_body.ensures ∙ c.if-is_body.true) c.next.ensures
 
-returns-2 : tie.Need-returns-2
+returns-2 : tie.Need-returns
 unfolding take_bytes
-returns-2 c = rw (sym c.before.before.is_IsBody.ensures ∙ c.before.if1.false) c.fail.ensures
+returns-2 c = rw (sym c.before.before.is_body.ensures ∙ c.if-is_body.false) c.fail.ensures
 
 pub take_bytes_spec : {M : Type 1} → statement M
 take_bytes_spec = tie.close (tie.spec (λ c κs. search rules) (λ c κs. search rules) returns (λ c κs. search rules) returns-2)

@@ -10,17 +10,17 @@ use borrow.Author.Rules.{rules}
 use Rattle.cards.proofs.taking.take_first.Statement.{statement}
 use Rattle.cards.proofs.taking.take_first.Tie as tie
 
-returns : tie.Need-returns
+returns : tie.Need-returns-then-not-object
 unfolding take_first
-returns c = rw (← c.before.before.before.object_of.ensures, not-true c.before.before.before.object_of.result.read c.before.if1.true) c.fail.ensures
+returns c = rw (← c.object_of-object.ensures, not-true c.object_of-object.result.read c.if-not-object.true) c.fail.ensures
 
-returns-2 : tie.Need-returns-2
+returns-2 : tie.Need-returns-then-head-lt255
 unfolding take_first
-returns-2 c = rw (← c.before.before.before.before.before.before.before.before.object_of.ensures, not-false c.before.before.before.before.before.before.before.before.object_of.result.read c.before.before.before.before.before.before.if1.false, lt-ltb c.before.before.before.before.before.before.before.before.before.before.args.card.head.p 255 (omega arith)) (c.sizing.ensures ∙ ap (λ h. sizing 7 h c.before.before.before.before.before.before.before.before.before.before.args.card) c.before.with-p.ensures)
+returns-2 c = rw (← c.object_of-object.ensures, not-false c.object_of-object.result.read c.if-not-object.false, lt-ltb c.args.card.head.p 255 (omega arith)) (c.sizing.ensures ∙ ap (λ h. sizing 7 h c.args.card) c.with_p.ensures)
 
-returns-3 : tie.Need-returns-3
+returns-3 : tie.Need-returns
 unfolding take_first
-returns-3 c = rw (← c.before.before.before.before.before.before.before.object_of.ensures, not-false c.before.before.before.before.before.before.before.object_of.result.read c.before.before.before.before.before.if1.false, le-ltb c.before.before.before.before.before.before.before.before.before.args.card.head.p 255 (omega arith)) (c.fail2.ensures ∙ ap fail c.before.next.ensures)
+returns-3 c = rw (← c.object_of-object.ensures, not-false c.object_of-object.result.read c.if-not-object.false, le-ltb c.args.card.head.p 255 (omega arith)) (c.fail-2.ensures ∙ ap fail c.next.ensures)
 
 pub take_first_spec : {M : Type 1} → statement M
 take_first_spec = tie.close (tie.spec (λ c κs. search rules) (λ c κs. search rules) returns (λ c. search rules) (λ c κs. search rules) (λ c κs. search rules) returns-2 (λ c κs. search rules) (λ c κs. search rules) returns-3)

@@ -10,17 +10,17 @@ use borrow.Author.Rules.{rules}
 use Rattle.cards.proofs.taking.take_kind.Statement.{statement}
 use Rattle.cards.proofs.taking.take_kind.Tie as tie
 
-returns : tie.Need-returns
+returns : tie.Need-returns-then-same
 unfolding take_kind ascii
-returns c = rw (sym c.before.before.same.ensures ∙ c.before.if1.true) c.next.ensures
+returns c = rw (sym c.same.ensures ∙ c.if-same.true) c.next.ensures
 
-returns-2 : tie.Need-returns-2
+returns-2 : tie.Need-returns-then-same-2
 unfolding take_kind ascii
-returns-2 c = rw (sym c.before.before.before.before.before.before.before.same.ensures ∙ c.before.before.before.before.before.before.if1.false, sym c.before.before.before.before.same2.ensures ∙ c.before.before.before.if2.true) (c.sizing.ensures ∙ ap (λ h. sizing 2 h c.before.before.before.before.before.before.before.before.before.before.args.card) c.before.with-flag.ensures)
+returns-2 c = rw (sym c.same.ensures ∙ c.if-same.false, sym c.same-2.ensures ∙ c.if-same-2.true) (c.sizing.ensures ∙ ap (λ h. sizing 2 h c.args.card) c.with_flag.ensures)
 
-returns-3 : tie.Need-returns-3
+returns-3 : tie.Need-returns
 unfolding take_kind ascii
-returns-3 c = rw (sym c.before.before.before.before.before.same.ensures ∙ c.before.before.before.before.if1.false, sym c.before.before.same2.ensures ∙ c.before.if2.false) c.fail.ensures
+returns-3 c = rw (sym c.same.ensures ∙ c.if-same.false, sym c.same-2.ensures ∙ c.if-same-2.false) c.fail.ensures
 
 pub take_kind_spec : {M : Type 1} → statement M
-take_kind_spec = tie.close (tie.spec (λ c. search rules) (λ c κs. search rules) (λ c κs. search rules) returns (λ c. search rules) (λ c κs. search rules) (λ c κs. search rules) (λ c κs. search rules) returns-2 (λ c κs. search rules) returns-3)
+take_kind_spec = tie.close (tie.spec (λ c κs. search rules) (λ c κs. search rules) returns (λ c κs. search rules) (λ c κs. search rules) (λ c κs. search rules) returns-2 (λ c κs. search rules) returns-3)

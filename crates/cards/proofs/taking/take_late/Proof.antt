@@ -11,45 +11,45 @@ use borrow.Author.Rules.{rules}
 use Rattle.cards.proofs.taking.take_late.Statement.{statement}
 use Rattle.cards.proofs.taking.take_late.Tie as tie
 
-returns : tie.Need-returns
+returns : tie.Need-returns-then-wants-eq15
 unfolding ascii
-returns c = c.expect.ensures ∙ taken_at c.before.before.before.before.args.card c.before.before.before.before.args.word.now 15 c.before.before.if1.true
+returns c = c.expect.ensures ∙ taken_at c.args.card c.args.word.now 15 c.if-wants-eq15.true
 
-take_reading_requires : tie.Need-take-reading-requires
-take_reading_requires c κs = c.before.before.before.requires.0
+take_reading_requires : tie.Need-take_reading-requires
+take_reading_requires c κs = c.requires.0
 
-returns-2 : tie.Need-returns-2
+returns-2 : tie.Need-returns-then-wants-eq16
 unfolding ascii
-returns-2 c = c.take-reading.ensures ∙ taken_at c.before.before.before.before.args.card c.before.before.before.before.args.word.now 16 c.before.if2.true
+returns-2 c = c.take_reading.ensures ∙ taken_at c.args.card c.args.word.now 16 c.if-wants-eq16.true
 
-take_after_requires : tie.Need-take-after-requires
-take_after_requires c κs = c.before.before.before.before.requires.0
+take_after_requires : tie.Need-take_after-requires
+take_after_requires c κs = c.requires.0
 
-returns-3 : tie.Need-returns-3
+returns-3 : tie.Need-returns-then-wants-eq17
 unfolding ascii
-returns-3 c = c.take_after.ensures ∙ taken_at c.before.before.before.before.before.args.card c.before.before.before.before.before.args.word.now 17 c.before.if3.true
+returns-3 c = c.take_after.ensures ∙ taken_at c.args.card c.args.word.now 17 c.if-wants-eq17.true
 
-take_name_requires : tie.Need-take-name-requires
-take_name_requires c κs = (c.before.before.before.before.before.requires.0, c.before.before.before.before.before.requires.1)
+take_name_requires : tie.Need-take_name-requires
+take_name_requires c κs = (c.requires.0, c.requires.1)
 
-returns-4 : tie.Need-returns-4
+returns-4 : tie.Need-returns-then-wants-eq18
 unfolding ascii
-returns-4 c = c.take-name.ensures ∙ taken_at c.before.before.before.before.before.before.args.card c.before.before.before.before.before.before.args.word.now 18 c.before.if4.true
+returns-4 c = c.take_name.ensures ∙ taken_at c.args.card c.args.word.now 18 c.if-wants-eq18.true
 
-returns-5 : tie.Need-returns-5
+returns-5 : tie.Need-returns-then-wants-eq19
 unfolding ascii
-returns-5 c = c.expect2.ensures ∙ taken_at c.before.before.before.before.before.before.before.before.args.card c.before.before.before.before.before.before.before.before.args.word.now 19 c.before.before.if5.true
+returns-5 c = c.expect-then-wants-eq19.ensures ∙ taken_at c.args.card c.args.word.now 19 c.if-wants-eq19.true
 
-returns-6 : tie.Need-returns-6
+returns-6 : tie.Need-returns-then-wants-eq20
 unfolding ascii
-returns-6 c = c.take-tag.ensures ∙ taken_at c.before.before.before.before.before.before.before.before.args.card c.before.before.before.before.before.before.before.before.args.word.now 20 c.before.if6.true
+returns-6 c = c.take_tag.ensures ∙ taken_at c.args.card c.args.word.now 20 c.if-wants-eq20.true
 
-returns-7 : tie.Need-returns-7
+returns-7 : tie.Need-returns
 unfolding ascii
 returns-7 c =
-    let low : 21 ≤ c.before.before.before.before.before.before.before.before.args.card.wants = above c.before.before.before.before.before.before.before.before.args.card.wants 20 (above c.before.before.before.before.before.before.before.before.args.card.wants 19 (above c.before.before.before.before.before.before.before.before.args.card.wants 18 (above c.before.before.before.before.before.before.before.before.args.card.wants 17 (above c.before.before.before.before.before.before.before.before.args.card.wants 16 (above c.before.before.before.before.before.before.before.before.args.card.wants 15 c.before.before.before.before.before.before.before.before.requires.2 c.before.before.before.before.before.before.if1.false) c.before.before.before.before.before.if2.false) c.before.before.before.before.if3.false) c.before.before.before.if4.false) c.before.before.if5.false) c.before.if6.false in
-    let e : c.before.before.before.before.before.before.before.before.args.card.wants ≡ 21 = omega arith in
-    c.take-bytes.ensures ∙ taken_at c.before.before.before.before.before.before.before.before.args.card c.before.before.before.before.before.before.before.before.args.word.now 21 e
+    let low : 21 ≤ c.args.card.wants = above c.args.card.wants 20 (above c.args.card.wants 19 (above c.args.card.wants 18 (above c.args.card.wants 17 (above c.args.card.wants 16 (above c.args.card.wants 15 c.requires.2 c.if-wants-eq15.false) c.if-wants-eq16.false) c.if-wants-eq17.false) c.if-wants-eq18.false) c.if-wants-eq19.false) c.if-wants-eq20.false in
+    let e : c.args.card.wants ≡ 21 = omega arith in
+    c.take_bytes.ensures ∙ taken_at c.args.card c.args.word.now 21 e
 
 pub take_late_spec : {M : Type 1} → statement M
-take_late_spec = tie.close (tie.spec (λ c. search rules) (λ c κs. search rules) returns take_reading_requires returns-2 take_after_requires returns-3 take_name_requires returns-4 (λ c. search rules) (λ c κs. search rules) returns-5 (λ c κs. search rules) returns-6 (λ c κs. search rules) returns-7)
+take_late_spec = tie.close (tie.spec (λ c κs. search rules) returns take_reading_requires returns-2 take_after_requires returns-3 take_name_requires returns-4 (λ c κs. search rules) returns-5 (λ c κs. search rules) returns-6 (λ c κs. search rules) returns-7)

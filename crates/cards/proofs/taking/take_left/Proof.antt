@@ -10,23 +10,23 @@ use borrow.Author.Rules.{rules}
 use Rattle.cards.proofs.taking.take_left.Statement.{statement}
 use Rattle.cards.proofs.taking.take_left.Tie as tie
 
-returns : tie.Need-returns
+returns : tie.Need-returns-then-not-object
 unfolding take_object
-returns c = rw (← c.before.before.before.object_of.ensures, not-true c.before.before.before.object_of.result.read c.before.if1.true) c.fail.ensures
+returns c = rw (← c.object_of-object.ensures, not-true c.object_of-object.result.read c.if-not-object.true) c.fail.ensures
 
-add_if2 : tie.Need-overflow-add-if2
-add_if2 c = let s = c.before.before.before.before.before.before.requires.count in omega arith
+add_if2 : tie.Need-overflow_add-card
+add_if2 c = let s = c.requires.count in omega arith
 
-returns-2 : tie.Need-returns-2
+returns-2 : tie.Need-returns-then-card-head
 unfolding take_object
-returns-2 c = rw (← c.before.before.before.before.before.before.before.object_of.ensures, not-false c.before.before.before.before.before.before.before.object_of.result.read c.before.before.before.before.before.if1.false, eq-eqb (c.before.before.before.before.before.before.before.before.before.args.card.count + 1) c.before.before.before.before.before.before.before.before.before.args.card.head.p c.before.if2.true) c.next.ensures
+returns-2 c = rw (← c.object_of-object.ensures, not-false c.object_of-object.result.read c.if-not-object.false, eq-eqb (c.args.card.count + 1) c.args.card.head.p c.if-card-head.true) c.next.ensures
 
-add_counting : tie.Need-overflow-add-counting
-add_counting c = let s = c.before.before.before.before.before.before.before.before.before.requires.count in omega arith
+add_counting : tie.Need-overflow_add-card-2
+add_counting c = let s = c.requires.count in omega arith
 
-returns-3 : tie.Need-returns-3
+returns-3 : tie.Need-returns
 unfolding take_object
-returns-3 c = rw (← c.before.before.before.before.before.before.before.before.object_of.ensures, not-false c.before.before.before.before.before.before.before.before.object_of.result.read c.before.before.before.before.before.before.if1.false, ne_eqb (c.before.before.before.before.before.before.before.before.before.before.args.card.count + 1) c.before.before.before.before.before.before.before.before.before.before.args.card.head.p c.before.before.if2.false) c.counting.ensures
+returns-3 c = rw (← c.object_of-object.ensures, not-false c.object_of-object.result.read c.if-not-object.false, ne_eqb (c.args.card.count + 1) c.args.card.head.p c.if-card-head.false) c.counting.ensures
 
 pub take_left_spec : {M : Type 1} → statement M
 take_left_spec = tie.close (tie.spec (λ c κs. search rules) (λ c κs. search rules) returns add_if2 (λ c κs. search rules) returns-2 add_counting (λ c κs. search rules) returns-3)

@@ -14,22 +14,22 @@ use borrow.Author.Rules.{rules}
 use Rattle.cards.proofs.taking.take_member.Statement.{statement}
 use Rattle.cards.proofs.taking.take_member.Tie as tie
 
-returns : tie.Need-returns
+returns : tie.Need-returns-then-not-object
 unfolding take_member
-returns c = rw (← c.before.before.before.member_of.ensures, not-true c.before.before.before.member_of.result.read c.before.if1.true) c.fail.ensures
+returns c = rw (← c.member_of-object.ensures, not-true c.member_of-object.result.read c.if-not-object.true) c.fail.ensures
 
-returns-2 : tie.Need-returns-2
+returns-2 : tie.Need-returns-then-holds-ne0
 unfolding take_member
-returns-2 c = rw (← c.before.before.before.before.before.member_of.ensures, not-false c.before.before.before.before.before.member_of.result.read c.before.before.before.if1.false, ne_eqb (member c.before.before.before.before.before.before.before.before.args.card.set c.before.before.before.before.before.member_of.result.number) 0 (λ e. c.before.if2.true (c.before.before.holds.ensures ∙ e))) c.fail2.ensures
+returns-2 c = rw (← c.member_of-object.ensures, not-false c.member_of-object.result.read c.if-not-object.false, ne_eqb (member c.args.card.set c.member_of-object.result.number) 0 (λ e. c.if-holds-ne0.true (c.holds.ensures ∙ e))) c.fail-then-holds-ne0.ensures
 
-with_object_requires : tie.Need-with-object-requires
+with_object_requires : tie.Need-with_object-requires
 with_object_requires c κs =
-    let most : c.before.before.before.before.member_of.result.number ≤ 63 = rw c.before.before.before.before.member_of.ensures (member-small c.before.before.before.before.before.before.before.args.card.head c.before.before.before.before.before.before.before.args.word.now) in
-    (omega arith, sym c.before.holds.ensures ∙ c.if2.false)
+    let most : c.member_of-object.result.number ≤ 63 = rw c.member_of-object.ensures (member-small c.args.card.head c.args.word.now) in
+    (omega arith, sym c.holds.ensures ∙ c.if-holds-ne0.false)
 
-returns-3 : tie.Need-returns-3
+returns-3 : tie.Need-returns
 unfolding take_member
-returns-3 c = rw (← c.before.before.before.before.before.before.member_of.ensures, not-false c.before.before.before.before.before.before.member_of.result.read c.before.before.before.before.if1.false, eq-eqb (member c.before.before.before.before.before.before.before.before.before.args.card.set c.before.before.before.before.before.before.member_of.result.number) 0 (sym c.before.before.before.holds.ensures ∙ c.before.before.if2.false)) (c.standing.ensures ∙ ap (λ s. with_set s c.before.before.before.before.before.before.before.before.before.args.card) c.before.with-object.ensures)
+returns-3 c = rw (← c.member_of-object.ensures, not-false c.member_of-object.result.read c.if-not-object.false, eq-eqb (member c.args.card.set c.member_of-object.result.number) 0 (sym c.holds.ensures ∙ c.if-holds-ne0.false)) (c.standing.ensures ∙ ap (λ s. with_set s c.args.card) c.with_object.ensures)
 
 pub take_member_spec : {M : Type 1} → statement M
 take_member_spec = tie.close (tie.spec (λ c κs. search rules) (λ c κs. search rules) returns (λ c κs. search rules) (λ c κs. search rules) returns-2 with_object_requires (λ c κs. search rules) returns-3)

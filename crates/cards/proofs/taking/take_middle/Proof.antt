@@ -9,13 +9,13 @@ use borrow.Author.Rules.{rules}
 use Rattle.cards.proofs.taking.take_middle.Statement.{statement}
 use Rattle.cards.proofs.taking.take_middle.Tie as tie
 
-returns : tie.Need-returns
+returns : tie.Need-returns-then-same
 unfolding ascii
-returns c = rw (sym c.before.before.same.ensures ∙ c.before.if1.true) c.counting.ensures
+returns c = rw (sym c.same.ensures ∙ c.if-same.true) c.counting.ensures
 
-returns-2 : tie.Need-returns-2
+returns-2 : tie.Need-returns
 unfolding ascii
-returns-2 c = rw (sym c.before.before.same.ensures ∙ c.before.if1.false) c.fail.ensures
+returns-2 c = rw (sym c.same.ensures ∙ c.if-same.false) c.fail.ensures
 
 pub take_middle_spec : {M : Type 1} → statement M
-take_middle_spec = tie.close (tie.spec (λ c. search rules) (λ c κs. search rules) (λ c κs. search rules) returns (λ c κs. search rules) returns-2)
+take_middle_spec = tie.close (tie.spec (λ c κs. search rules) (λ c κs. search rules) returns (λ c κs. search rules) returns-2)

@@ -11,15 +11,15 @@ use Rattle.cards.proofs.taking.take_reading.Statement.{statement}
 use Rattle.cards.proofs.taking.take_reading.Tie as tie
 
 weighed_requires : tie.Need-weighed-requires
-weighed_requires c κs = let s = c.before.before.before.requires.readings in omega arith
+weighed_requires c κs = let s = c.requires.readings in omega arith
 
-returns : tie.Need-returns
+returns : tie.Need-returns-then-is_reading
 unfolding take_reading
-returns c = rw (sym c.before.before.is-reading.ensures ∙ c.before.if1.true) c.weighed.ensures
+returns c = rw (sym c.is_reading.ensures ∙ c.if-is_reading.true) c.weighed.ensures
 
-returns-2 : tie.Need-returns-2
+returns-2 : tie.Need-returns
 unfolding take_reading
-returns-2 c = rw (sym c.before.before.is-reading.ensures ∙ c.before.if1.false) c.fail.ensures
+returns-2 c = rw (sym c.is_reading.ensures ∙ c.if-is_reading.false) c.fail.ensures
 
 pub take_reading_spec : {M : Type 1} → statement M
 take_reading_spec = tie.close (tie.spec (λ c κs. search rules) weighed_requires returns (λ c κs. search rules) returns-2)

@@ -10,13 +10,13 @@ use borrow.Author.Rules.{rules}
 use Rattle.cards.proofs.taking.take_size.Statement.{statement}
 use Rattle.cards.proofs.taking.take_size.Tie as tie
 
-returns : tie.Need-returns
+returns : tie.Need-returns-then-not-elements
 unfolding take_size
-returns c = rw (← c.before.before.before.number.ensures, not-true c.before.before.before.number.result.read c.before.if1.true) c.fail.ensures
+returns c = rw (← c.number-elements.ensures, not-true c.number-elements.result.read c.if-not-elements.true) c.fail.ensures
 
-returns-2 : tie.Need-returns-2
+returns-2 : tie.Need-returns
 unfolding take_size
-returns-2 c = rw (← c.before.before.before.before.before.number.ensures, not-false c.before.before.before.before.before.number.result.read c.before.before.before.if1.false) (c.sizing.ensures ∙ ap (λ h. sizing 3 h c.before.before.before.before.before.before.before.args.card) c.before.with-n.ensures)
+returns-2 c = rw (← c.number-elements.ensures, not-false c.number-elements.result.read c.if-not-elements.false) (c.sizing.ensures ∙ ap (λ h. sizing 3 h c.args.card) c.with_n.ensures)
 
 pub take_size_spec : {M : Type 1} → statement M
 take_size_spec = tie.close (tie.spec (λ c κs. search rules) (λ c κs. search rules) returns (λ c κs. search rules) (λ c κs. search rules) returns-2)

@@ -10,13 +10,13 @@ use borrow.Author.Rules.{rules}
 use Rattle.cards.proofs.taking.take_standard.Statement.{statement}
 use Rattle.cards.proofs.taking.take_standard.Tie as tie
 
-returns : tie.Need-returns
+returns : tie.Need-returns-then-same
 unfolding take_standard ascii
-returns c = rw (sym c.before.before.same.ensures ∙ c.before.if1.true) c.next.ensures
+returns c = rw (sym c.same.ensures ∙ c.if-same.true) c.next.ensures
 
-returns-2 : tie.Need-returns-2
+returns-2 : tie.Need-returns
 unfolding take_standard ascii
-returns-2 c = rw (sym c.before.before.same.ensures ∙ c.before.if1.false) c.take-member.ensures
+returns-2 c = rw (sym c.same.ensures ∙ c.if-same.false) c.take_member.ensures
 
 pub take_standard_spec : {M : Type 1} → statement M
-take_standard_spec = tie.close (tie.spec (λ c. search rules) (λ c κs. search rules) (λ c κs. search rules) returns (λ c κs. search rules) returns-2)
+take_standard_spec = tie.close (tie.spec (λ c κs. search rules) (λ c κs. search rules) returns (λ c κs. search rules) returns-2)

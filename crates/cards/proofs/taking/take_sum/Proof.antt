@@ -12,13 +12,13 @@ use borrow.Author.Rules.{rules}
 use Rattle.cards.proofs.taking.take_sum.Statement.{statement}
 use Rattle.cards.proofs.taking.take_sum.Tie as tie
 
-returns : tie.Need-returns
+returns : tie.Need-returns-then-sum
 unfolding take_sum
-returns c = rw (← c.before.before.before.signed.ensures, c.before.before.if1.true) (c.summing.ensures ∙ ap (λ z. summing z c.before.before.before.before.before.args.card) (to_z-of_z w64 c.before.before.before.signed.result.number (search rules)))
+returns c = rw (← c.signed-sum.ensures, c.if-sum.true) (c.summing.ensures ∙ ap (λ z. summing z c.args.card) (to_z-of_z w64 c.signed-sum.result.number (search rules)))
 
-returns-2 : tie.Need-returns-2
+returns-2 : tie.Need-returns
 unfolding take_sum
-returns-2 c = rw (← c.before.before.signed.ensures, c.before.if1.false) c.fail.ensures
+returns-2 c = rw (← c.signed-sum.ensures, c.if-sum.false) c.fail.ensures
 
 pub take_sum_spec : {M : Type 1} → statement M
 take_sum_spec = tie.close (tie.spec (λ c κs. search rules) (λ c κs. search rules) returns (λ c κs. search rules) returns-2)

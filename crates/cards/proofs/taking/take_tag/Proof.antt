@@ -11,19 +11,19 @@ use borrow.Author.Rules.{rules}
 use Rattle.cards.proofs.taking.take_tag.Statement.{statement}
 use Rattle.cards.proofs.taking.take_tag.Tie as tie
 
-returns : tie.Need-returns
+returns : tie.Need-returns-then-not-is_tag
 unfolding take_tag
-returns c = rw (sym c.before.before.is-tag.ensures ∙ not-true _ c.before.if1.true) c.fail.ensures
+returns c = rw (sym c.is_tag.ensures ∙ not-true _ c.if-not-is_tag.true-raw) c.fail.ensures
 
-hex_byte_requires : tie.Need-hex-byte-requires
+hex_byte_requires : tie.Need-hex_byte-requires
 hex_byte_requires c κs =
-    let t = sym c.before.is-tag.ensures ∙ not-false _ c.if1.false in
-    let w = c.before.before.before.args.word.now in
-    (omega (arith, tag_long c.before.before.before.args.card.count w t), tag_first c.before.before.before.args.card.count w t, tag_second c.before.before.before.args.card.count w t)
+    let t = sym c.is_tag.ensures ∙ not-false _ c.if-not-is_tag.false-raw in
+    let w = c.args.word.now in
+    (omega (arith, tag_long c.args.card.count w t), tag_first c.args.card.count w t, tag_second c.args.card.count w t)
 
-returns-2 : tie.Need-returns-2
+returns-2 : tie.Need-returns
 unfolding take_tag
-returns-2 c = rw (sym c.before.before.before.is-tag.ensures ∙ not-false _ c.before.before.if1.false) (c.counting.ensures ∙ ap (λ t. counting 21 t c.before.before.before.before.before.args.card) c.before.hex-byte.ensures)
+returns-2 c = rw (sym c.is_tag.ensures ∙ not-false _ c.if-not-is_tag.false-raw) (c.counting.ensures ∙ ap (λ t. counting 21 t c.args.card) c.hex_byte.ensures)
 
 pub take_tag_spec : {M : Type 1} → statement M
 take_tag_spec = tie.close (tie.spec (λ c κs. search rules) (λ c κs. search rules) returns hex_byte_requires (λ c. search rules) (λ c κs. search rules) returns-2)

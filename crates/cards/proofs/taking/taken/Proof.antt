@@ -9,23 +9,23 @@ use borrow.Author.Rules.{rules}
 use Rattle.cards.proofs.taking.taken.Statement.{statement}
 use Rattle.cards.proofs.taking.taken.Tie as tie
 
-take_early_requires : tie.Need-take-early-requires
-take_early_requires c κs = (c.before.before.before.requires.0, c.before.before.before.requires.2, omega arith)
+take_early_requires : tie.Need-take_early-requires
+take_early_requires c κs = (c.requires.0, c.requires.2, omega arith)
 
-returns : tie.Need-returns
-returns c = c.take-early.ensures
+returns : tie.Need-returns-then-card-lt8
+returns c = c.take_early.ensures
 
-take_middling_requires : tie.Need-take-middling-requires
-take_middling_requires c κs = (c.before.before.before.before.before.requires.0, omega arith, omega arith)
+take_middling_requires : tie.Need-take_middling-requires
+take_middling_requires c κs = (c.requires.0, omega arith, omega arith)
 
-returns-2 : tie.Need-returns-2
-returns-2 c = c.take-middling.ensures
+returns-2 : tie.Need-returns-then-card-lt15
+returns-2 c = c.take_middling.ensures
 
-take_late_requires : tie.Need-take-late-requires
-take_late_requires c κs = (c.before.before.before.before.before.requires.0, c.before.before.before.before.before.requires.1, omega arith, c.before.before.before.before.before.requires.3)
+take_late_requires : tie.Need-take_late-requires
+take_late_requires c κs = (c.requires.0, c.requires.1, omega arith, c.requires.3)
 
-returns-3 : tie.Need-returns-3
-returns-3 c = c.take-late.ensures
+returns-3 : tie.Need-returns
+returns-3 c = c.take_late.ensures
 
 pub taken_spec : {M : Type 1} → statement M
 taken_spec = tie.close (tie.spec take_early_requires returns take_middling_requires returns-2 take_late_requires returns-3)

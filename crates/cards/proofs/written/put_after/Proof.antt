@@ -11,25 +11,25 @@ use borrow.Author.Rules.{rules}
 use Rattle.cards.proofs.written.put_after.Statement.{statement}
 use Rattle.cards.proofs.written.put_after.Tie as tie
 
-add_put_start : tie.Need-overflow-add-put-start
-add_put_start c = let n = c.before.before.before.before.before.before.before.before.before.requires.n in omega arith
+add_put_start : tie.Need-overflow_add-head
+add_put_start c = let n = c.requires.n in omega arith
 
-mul_put_start : tie.Need-overflow-mul-put-start
-mul_put_start c = let n = c.before.before.before.before.before.before.before.before.before.requires.n in omega arith
+mul_put_start : tie.Need-overflow_mul-head
+mul_put_start c = let n = c.requires.n in omega arith
 
-same_length : tie.Need-same-length
-same_length c = kept c.before.before.put-start.ensures
+same_length : tie.Need-shape_of-out-then-same
+same_length c = kept c.put_start.ensures
 
-returns : tie.Need-returns
+returns : tie.Need-returns-then-same
 unfolding ascii
-returns c = named c.before.before.put-start.ensures (after-names c.before.before.before.before.before.before.before.before.before.before.before.before.args.card c.before.before.before.before.before.before.before.before.before.before.before.before.args.word.now (sym c.before.before.before.before.before.before.before.before.same.ensures ∙ c.before.before.before.before.before.before.before.if1.true))
+returns c = named c.put_start.ensures (after-names c.args.card c.args.word.now (sym c.same.ensures ∙ c.if-same.true))
 
-same_length_2 : tie.Need-same-length-2
-same_length_2 c = kept c.before.before.put-reading.ensures
+same_length_2 : tie.Need-shape_of-out
+same_length_2 c = kept c.put_reading.ensures
 
-returns-2 : tie.Need-returns-2
+returns-2 : tie.Need-returns
 unfolding ascii
-returns-2 c = named c.before.before.put-reading.ensures (after-other c.before.before.before.before.before.before.before.before.before.args.card c.before.before.before.before.before.before.before.before.before.args.word.now (sym c.before.before.before.before.before.same.ensures ∙ c.before.before.before.before.if1.false))
+returns-2 c = named c.put_reading.ensures (after-other c.args.card c.args.word.now (sym c.same.ensures ∙ c.if-same.false))
 
 pub put_after_spec : {M : Type 1} → statement M
-put_after_spec = tie.close (tie.spec (λ c. search rules) (λ c κs. search rules) add_put_start mul_put_start (λ c κs. search rules) same_length returns (λ c κs. search rules) same_length_2 returns-2)
+put_after_spec = tie.close (tie.spec (λ c κs. search rules) add_put_start mul_put_start (λ c κs. search rules) same_length returns (λ c κs. search rules) same_length_2 returns-2)

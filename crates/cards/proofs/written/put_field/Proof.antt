@@ -10,20 +10,20 @@ use borrow.Author.Rules.{rules}
 use Rattle.cards.proofs.written.put_field.Statement.{statement}
 use Rattle.cards.proofs.written.put_field.Tie as tie
 
-cast_put_start : tie.Need-overflow-cast-put-start
-cast_put_start c = let a = c.before.before.before.before.before.before.requires in omega arith
+cast_put_start : tie.Need-overflow_cast-card
+cast_put_start c = let a = c.requires in omega arith
 
-body_length_requires : tie.Need-body-length-requires
-body_length_requires c κs = sym c.before.before.before.is_IsBody.ensures ∙ c.before.before.if1.true
+body_length_requires : tie.Need-body_length-requires
+body_length_requires c κs = sym c.before.before.before.is_body.ensures ∙ c.if-is_body.true
 
-put_body_requires : tie.Need-put-body-requires
-put_body_requires c κs = sym c.before.before.before.before.before.before.before.before.is_IsBody.ensures ∙ c.before.before.before.before.before.before.before.if1.true
+put_body_requires : tie.Need-put_body-requires
+put_body_requires c κs = sym c.before.before.before.before.before.before.before.before.is_body.ensures ∙ c.if-is_body.true
 
-returns : tie.Need-returns
-returns c = named (c.before.before.before.before.before.before.put-start.ensures then c.before.before.put-body.ensures) (field-some c.before.before.before.before.before.before.before.before.before.before.before.before.before.before.args.card c.before.before.before.before.before.before.before.before.before.before.before.before.before.before.args.word.now (sym c.before.before.before.before.before.before.before.before.before.before.before.is_IsBody.ensures ∙ c.before.before.before.before.before.before.before.before.before.before.if1.true) c.before.before.before.before.before.before.before.body-length.result c.before.before.before.before.before.before.before.body-length.ensures)
+returns : tie.Need-returns-then-is_body
+returns c = named (c.put_start-start.ensures then c.put_body.ensures) (field-some c.args.card c.args.word.now (sym c.before.before.before.before.before.before.before.before.before.before.before.is_body.ensures ∙ c.if-is_body.true) c.body_length.result c.body_length.ensures)
 
-returns-2 : tie.Need-returns-2
-returns-2 c = named (nothing _ _) (field-none c.before.before.before.before.args.card c.before.before.before.before.args.word.now (sym c.before.is_IsBody.ensures ∙ c.if1.false))
+returns-2 : tie.Need-returns
+returns-2 c = named (nothing _ _) (field-none c.args.card c.args.word.now (sym c.before.is_body.ensures ∙ c.if-is_body.false))
 
 pub put_field_spec : {M : Type 1} → statement M
 put_field_spec = tie.close (tie.spec (λ c κs. search rules) cast_put_start body_length_requires (λ c κs. search rules) put_body_requires (λ c. search rules) returns returns-2)

@@ -13,16 +13,16 @@ use borrow.Author.Rules.{rules}
 use Rattle.cards.proofs.written.put_reading.Statement.{statement}
 use Rattle.cards.proofs.written.put_reading.Tie as tie
 
-same_length : tie.Need-same-length
-same_length c = kept c.before.before.put-bytes.ensures
+same_length : tie.Need-shape_of-out-then-is_reading
+same_length c = kept c.put_bytes.ensures
 
-returns : tie.Need-returns
+returns : tie.Need-returns-then-is_reading
 returns c =
-    named c.before.before.put-bytes.ensures (ap (bytes_of 4) (c.before.before.before.bits.ensures ∙ ap (wrapped 64) (to_z-of_z w64 c.before.before.before.before.before.before.signed.result.number (search rules)))
-    ∙ reading-some c.before.before.before.before.before.before.before.before.before.before.before.args.card c.before.before.before.before.before.before.before.before.before.before.before.args.word.now c.before.before.before.before.before.before.signed.result c.before.before.before.before.before.before.signed.ensures (sym c.before.before.before.before.before.before.before.before.is-reading.ensures ∙ c.before.before.before.before.before.before.before.if1.true))
+    named c.put_bytes.ensures (ap (bytes_of 4) (c.bits.ensures ∙ ap (wrapped 64) (to_z-of_z w64 c.signed-reading.result.number (search rules)))
+    ∙ reading-some c.args.card c.args.word.now c.signed-reading.result c.signed-reading.ensures (sym c.is_reading.ensures ∙ c.if-is_reading.true))
 
-returns-2 : tie.Need-returns-2
-returns-2 c = named (nothing _ _) (reading-none c.before.before.before.before.args.card c.before.before.before.before.args.word.now (sym c.before.is-reading.ensures ∙ c.if1.false))
+returns-2 : tie.Need-returns
+returns-2 c = named (nothing _ _) (reading-none c.args.card c.args.word.now (sym c.is_reading.ensures ∙ c.if-is_reading.false))
 
 pub put_reading_spec : {M : Type 1} → statement M
 put_reading_spec = tie.close (tie.spec (λ c κs. search rules) (λ c κs. search rules) (λ c κs. search rules) (λ c κs. search rules) same_length returns returns-2)

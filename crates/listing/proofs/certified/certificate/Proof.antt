@@ -23,53 +23,51 @@ use Rattle.listing.proofs.certified.certificate.Statement.{statement}
 use Rattle.listing.proofs.certified.certificate.Tie as tie
 
 -- what solving promised, at any place after it
-module _ (c : tie.After-solve) where
+module _ (c : tie.After-solve-solved) where
   abbrev start : tie.Start
   start = c.before.before.before.before.before.before
 
   abbrev file : List ℕ
   file = start.args.bytes.now
 
-  few : c.solve.result.parameters.v ≤ 50
+  few : c.solve-solved.result.parameters.v ≤ 50
   few = solved-few file (replicate 2600 0) (replicate 50 (pos 0)) (replicate 1300 (pos 0)) (omega arith) refl (omega arith)
-      c.solve.ensures.0 c.solve.ensures.1.1.0 c.solve.ensures.1.1.1
+      c.solve-solved.ensures.0 c.solve-solved.ensures.1.1.0 c.solve-solved.ensures.1.1.1
 
 -- the column
-module _ (c : tie.After-column) where
-  abbrev read : tie.After-read
+module _ (c : tie.After-column-hundredths) where
+  abbrev read : tie.After-read-found
   read = c.before.before
 
-  abbrev solved : tie.After-solve
+  abbrev solved : tie.After-solve-solved
   solved = read.before.before.before.before
 
-  published : c.column.result ≡ column_of solved.solve.last.1.1.0 solved.solve.result.denominator read.read.result.set
-  published = search c.column.ensures
+  published : c.column-hundredths.result ≡ column_of solved.solve-solved.new.values solved.solve-solved.result.denominator read.read-found.result.set
+  published = search c.column-hundredths.ensures
 
-  long : length c.column.result ≡ 50
+  long : length c.column-hundredths.result ≡ 50
   long = ap (λ (l : List ℤ). length l) published
-      ∙ length_over 50 (hundredths_from solved.solve.last.1.1.0 solved.solve.result.denominator read.read.result.set) (replicate 50 (pos 0))
+      ∙ length_over 50 (hundredths_from solved.solve-solved.new.values solved.solve-solved.result.denominator read.read-found.result.set) (replicate 50 (pos 0))
 
 -- the accepted sum that was read, which is in its range
-module _ (c : tie.After-column) where
-  small : nat_abs (read c).read.result.sum ≤ sum_limit
-  small = read_small (file (solved c)) (read c).read.ensures
+module _ (c : tie.After-column-hundredths) where
+  small : nat_abs (read c).read-found.result.sum ≤ sum_limit
+  small = read_small (file (solved c)) (read c).read-found.ensures
 
-  back : to_z w64 (of_z w64 (read c).read.result.sum) ≡ (read c).read.result.sum
-  back = read_back (read c).read.result.sum (omega (arith, mag_abs (read c).read.result.sum, small))
+  back : to_z w64 (of_z w64 (read c).read-found.result.sum) ≡ (read c).read-found.result.sum
+  back = read_back (read c).read-found.result.sum (omega (arith, mag_abs (read c).read-found.result.sum, small))
 
 returns : tie.Need-returns
 returns c =
-    let e = c.before.before in
-    let k = e.before.before.before.before in
-    let s = solved k in
-    let found = (read k).read.result in
+    let s = solved c.before.before.before.before.before.before in
+    let found = (read c.before.before.before.before.before.before).read-found.result in
     let out = (start s).args.out.now in
-    let v = s.solve.result.parameters.v in
-    let same : certified_text (file s) 0 (take v k.column.result) s.solve.result found.set found.sum ≡ certificate_of (file s) =
-    ap (λ (l : List ℤ). certified_text (file s) 0 (take v l) s.solve.result found.set found.sum) (published k)
-    ∙ certificate_is (file s) s.solve.ensures.0 s.solve.ensures.1.1.0 (read k).read.ensures in (
-      search (rw (back k) at e.certify.ensures.0) ∙ (λ j. text_answer (same j) (length out)),
-      search (rw (back k) at e.certify.ensures.1) ∙ (λ j. text_after (same j) out),
+    let v = s.solve-solved.result.parameters.v in
+    let same : certified_text (file s) 0 (take v c.column-hundredths.result) s.solve-solved.result found.set found.sum ≡ certificate_of (file s) =
+    ap (λ (l : List ℤ). certified_text (file s) 0 (take v l) s.solve-solved.result found.set found.sum) (published c.before.before.before.before.before.before)
+    ∙ certificate_is (file s) s.solve-solved.ensures.0 s.solve-solved.ensures.1.1.0 (read c.before.before.before.before.before.before).read-found.ensures in (
+      search (rw (back c.before.before.before.before.before.before) at c.certify.ensures.0) ∙ (λ j. text_answer (same j) (length out)),
+      search (rw (back c.before.before.before.before.before.before) at c.certify.ensures.1) ∙ (λ j. text_after (same j) out),
     )
 
 pub certificate_spec : {M : Type 1} → statement M
@@ -83,7 +81,7 @@ certificate_spec =
     (λ c κs. tt)
     (λ c κs. tt)
     (λ c. omega (arith, long c, few (solved c)))
-    (λ c. sym (length-take-le _ c.before.column.result (omega (arith, long c.before, few (solved c.before)))))
-    (λ c κs. let k = c.before.before.before in rw (back k) (small k))
+    (λ c. sym (length-take-le _ c.column-hundredths.result (omega (arith, long c.before, few (solved c.before)))))
+    (λ c κs. rw (back c.before.before.before) (small c.before.before.before))
     (λ c. search rules)
     returns)

@@ -23,53 +23,51 @@ use Rattle.listing.proofs.certified.certificate_second.Statement.{statement}
 use Rattle.listing.proofs.certified.certificate_second.Tie as tie
 
 -- what solving promised, at any place after it
-module _ (c : tie.After-solve-second) where
+module _ (c : tie.After-solve_second-solved) where
   abbrev start : tie.Start
   start = c.before.before.before.before.before.before
 
   abbrev file : List ℕ
   file = start.args.bytes.now
 
-  few : c.solve-second.result.parameters.v ≤ 50
+  few : c.solve_second-solved.result.parameters.v ≤ 50
   few = solved_few2 file (replicate 2600 0) (replicate 50 (pos 0)) (replicate 1300 (pos 0)) (omega arith) refl (omega arith)
-      c.solve-second.ensures.0 c.solve-second.ensures.1.1.0 c.solve-second.ensures.1.1.1
+      c.solve_second-solved.ensures.0 c.solve_second-solved.ensures.1.1.0 c.solve_second-solved.ensures.1.1.1
 
 -- the column
-module _ (c : tie.After-column) where
-  abbrev read : tie.After-read-second
+module _ (c : tie.After-column-hundredths) where
+  abbrev read : tie.After-read_second-found
   read = c.before.before.before
 
-  abbrev solved : tie.After-solve-second
+  abbrev solved : tie.After-solve_second-solved
   solved = read.before.before.before.before
 
-  published : c.column.result ≡ column_of solved.solve-second.last.1.1.0 solved.solve-second.result.denominator read.read-second.result.job.set
-  published = search c.column.ensures
+  published : c.column-hundredths.result ≡ column_of solved.solve_second-solved.new.values solved.solve_second-solved.result.denominator read.read_second-found.result.job.set
+  published = search c.column-hundredths.ensures
 
-  long : length c.column.result ≡ 50
+  long : length c.column-hundredths.result ≡ 50
   long = ap (λ (l : List ℤ). length l) published
-      ∙ length_over 50 (hundredths_from solved.solve-second.last.1.1.0 solved.solve-second.result.denominator read.read-second.result.job.set) (replicate 50 (pos 0))
+      ∙ length_over 50 (hundredths_from solved.solve_second-solved.new.values solved.solve_second-solved.result.denominator read.read_second-found.result.job.set) (replicate 50 (pos 0))
 
 -- the accepted sum that was read, which is in its range
-module _ (c : tie.After-column) where
-  small : nat_abs (read c).read-second.result.job.sum ≤ sum_limit
-  small = read_small2 (file (solved c)) (read c).read-second.ensures
+module _ (c : tie.After-column-hundredths) where
+  small : nat_abs (read c).read_second-found.result.job.sum ≤ sum_limit
+  small = read_small2 (file (solved c)) (read c).read_second-found.ensures
 
-  back : to_z w64 (of_z w64 (read c).read-second.result.job.sum) ≡ (read c).read-second.result.job.sum
-  back = read_back (read c).read-second.result.job.sum (omega (arith, mag_abs (read c).read-second.result.job.sum, small))
+  back : to_z w64 (of_z w64 (read c).read_second-found.result.job.sum) ≡ (read c).read_second-found.result.job.sum
+  back = read_back (read c).read_second-found.result.job.sum (omega (arith, mag_abs (read c).read_second-found.result.job.sum, small))
 
 returns : tie.Need-returns
 returns c =
-    let e = c.before.before in
-    let k = e.before.before.before.before in
-    let s = solved k in
-    let found = (read k).read-second.result in
+    let s = solved c.before.before.before.before.before.before in
+    let found = (read c.before.before.before.before.before.before).read_second-found.result in
     let out = (start s).args.out.now in
-    let v = s.solve-second.result.parameters.v in
-    let same : certified_text (file s) found.names_at (take v k.column.result) s.solve-second.result found.job.set found.job.sum ≡ certificate_of2 (file s) =
-    ap (λ (l : List ℤ). certified_text (file s) found.names_at (take v l) s.solve-second.result found.job.set found.job.sum) (published k)
-    ∙ certificate_is2 (file s) s.solve-second.ensures.0 s.solve-second.ensures.1.1.0 (read k).read-second.ensures in (
-      search (rw (back k) at e.certify.ensures.0) ∙ (λ j. text_answer (same j) (length out)),
-      search (rw (back k) at e.certify.ensures.1) ∙ (λ j. text_after (same j) out),
+    let v = s.solve_second-solved.result.parameters.v in
+    let same : certified_text (file s) found.names_at (take v c.column-hundredths.result) s.solve_second-solved.result found.job.set found.job.sum ≡ certificate_of2 (file s) =
+    ap (λ (l : List ℤ). certified_text (file s) found.names_at (take v l) s.solve_second-solved.result found.job.set found.job.sum) (published c.before.before.before.before.before.before)
+    ∙ certificate_is2 (file s) s.solve_second-solved.ensures.0 s.solve_second-solved.ensures.1.1.0 (read c.before.before.before.before.before.before).read_second-found.ensures in (
+      search (rw (back c.before.before.before.before.before.before) at c.certify.ensures.0) ∙ (λ j. text_answer (same j) (length out)),
+      search (rw (back c.before.before.before.before.before.before) at c.certify.ensures.1) ∙ (λ j. text_after (same j) out),
     )
 
 pub certificate_second_spec : {M : Type 1} → statement M
@@ -83,7 +81,7 @@ certificate_second_spec =
     (λ c κs. tt)
     (λ c κs. tt)
     (λ c. omega (arith, long c, few (solved c)))
-    (λ c. sym (length-take-le _ c.before.column.result (omega (arith, long c.before, few (solved c.before)))))
-    (λ c κs. let k = c.before.before.before in rw (back k) (small k))
+    (λ c. sym (length-take-le _ c.column-hundredths.result (omega (arith, long c.before, few (solved c.before)))))
+    (λ c κs. rw (back c.before.before.before) (small c.before.before.before))
     (λ c. search rules)
     returns)

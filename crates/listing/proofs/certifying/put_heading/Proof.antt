@@ -9,11 +9,8 @@ use Rattle.listing.proofs.certifying.put_heading.Tie as tie
 returns : tie.Need-returns
 unfolding ascii
 returns c =
-    let c3 = c.before.before in
-    let c2 = c3.before.before.before.before.before in
-    let c1 = c2.before.before.before.before in
-    named (c1.put-text.ensures then c2.put-design.ensures then c3.put-text2.ensures) (search rules)
+    named (c.put_text-title_end.ensures then c.put_design-design_end.ensures then c.put_text.ensures) (search rules)
 
 pub put_heading_spec : {M : Type 1} → statement M
 put_heading_spec =
-    tie.close (tie.spec (λ c. search rules) (λ c κs. tt) (λ c κs. tt) (λ c. search rules) (λ c κs. tt) (λ c. kept (returns c)) returns)
+    tie.close (tie.spec (λ c κs. tt) (λ c κs. tt) (λ c κs. tt) (λ c. kept (returns c)) returns)

@@ -21,27 +21,18 @@ module _ (c : tie.Start) where
 returns : tie.Need-returns
 unfolding ascii
 returns c =
-    let c6 = c.before.before in
-    let c5 = c6.before.before.before.before in
-    let c4 = c5.before.before.before.before in
-    let c3 = c4.before.before.before.before.before in
-    let c2 = c3.before.before.before.before in
-    let c1 = c2.before.before.before.before in
-    let s = c1.before.before.before.before in
-    let back = (times (hundred s) (sum s) (lit< tt)).reads in
-    named ((c1.put-text.ensures then c2.put-value.ensures then c3.put_byte.ensures)
-    then (c4.put-text2.ensures then c5.put-value2.ensures then c6.put-byte2.ensures)) (rw back (search rules))
+    let back = (times (hundred c.before.before.before.before.before.before.before.before.before.before.before.before.before.before.before.before.before.before.before.before.before.before.before.before.before.before.before.before.before) (sum c.before.before.before.before.before.before.before.before.before.before.before.before.before.before.before.before.before.before.before.before.before.before.before.before.before.before.before.before.before) (lit< tt)).reads in
+    named ((c.put_text-standards.ensures then c.put_value-standards_figure.ensures then c.put_byte-standards_end.ensures)
+    then (c.put_text-accepted.ensures then c.put_value-accepted_figure.ensures then c.put_byte.ensures)) (rw back (search rules))
 
 pub put_sums_spec : {M : Type 1} → statement M
 put_sums_spec =
     tie.close
     (tie.spec
     (λ c. times_fits (hundred c.before) (sum c.before) (lit< tt))
-    (λ c. search rules)
     (λ c κs. tt)
     (λ c κs. tt)
     (λ c κs. tt)
-    (λ c. search rules)
     (λ c κs. tt)
     (λ c κs. tt)
     (λ c κs. tt)

@@ -13,33 +13,29 @@ use Rattle.listing.specs.Certified.{weight_at, weight_lines}
 use Rattle.listing.proofs.certifying.put_weights.Statement.{statement}
 use Rattle.listing.proofs.certifying.put_weights.Tie as tie
 
-abbrev invariant-loop : tie.invariant-loop
+abbrev invariant-loop : tie.invariant-loop-i
 invariant-loop out₀ at bytes names hundredths solved set spreading place₀ i₀ out place i = (i ≤ length hundredths) ×
     Wrote out₀ at (weight_lines bytes names hundredths solved set i) out place
 
-abbrev decreases-loop : tie.decreases-loop
+abbrev decreases-loop : tie.decreases-loop-i
 decreases-loop out₀ at bytes names hundredths solved set spreading place₀ i₀ out place i = length hundredths - i
 
-loop-again : tie.Need-loop-preserved invariant-loop decreases-loop
+loop-again : tie.Need-loop-i-preserved invariant-loop decreases-loop
 loop-again c =
-    let put = c.before.before in
-    let u = put.before.before in
-    let h = u.before in
-    let a = h.before in
-    let l = a.before.before.loop in
+    let l = c.loop-i in
     let i = l.i in
-    let start = a.before.before.before.before.before.before.args in
-    let back = read_back (get_or start.hundredths.now i (pos 0)) a.published.given in (
+    let start = c.args in
+    let back = read_back (get_or start.hundredths.now i (pos 0)) c.published-1.given in (
       omega arith,
       more-lines (weight_at start.bytes.now start.names start.hundredths.now start.solved start.set) i l.invariant.1
-          (named put.put-weight.ensures (rw (back, h.holds.ensures, u.uncertainty-in.ensures) (search rules))),
+          (named c.put_weight-place.ensures (rw (back, c.holds-held.ensures, c.uncertainty_in-uncertainty.ensures) (search rules))),
     )
 
 returns : tie.Need-returns invariant-loop decreases-loop
 returns c =
-    let a = c.before.before.before.before.before.args in
-    let e : c.before.loop.i ≡ length a.hundredths.now = omega arith in
-    named c.before.loop.invariant.1 (λ j. weight_lines a.bytes.now a.names a.hundredths.now a.solved a.set (e j))
+    let a = c.args in
+    let e : c.loop-i.i ≡ length a.hundredths.now = omega arith in
+    named c.loop-i.invariant.1 (λ j. weight_lines a.bytes.now a.names a.hundredths.now a.solved a.set (e j))
 
 pub put_weights_spec : {M : Type 1} → statement M
 put_weights_spec =
@@ -56,5 +52,5 @@ put_weights_spec =
     (λ c. omega arith)
     (λ c. omega arith)
     loop-again
-    (λ c. kept c.before.loop.invariant.1)
+    (λ c. kept c.loop-i.invariant.1)
     returns)

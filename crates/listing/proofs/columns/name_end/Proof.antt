@@ -8,12 +8,12 @@ use Rattle.listing.proofs.columns.Filling.{cut_short}
 use Rattle.listing.proofs.columns.name_end.Statement.{statement}
 use Rattle.listing.proofs.columns.name_end.Tie as tie
 
-returns : tie.Need-returns
-returns c = let s = c.before.args.bytes.now in (omega arith, omega arith, cut_short s c.before.args.start c.before.requires (omega arith))
+returns : tie.Need-returns-then-all-start-lt8
+returns c = let s = c.args.bytes.now in (omega arith, omega arith, cut_short s c.args.start c.requires (omega arith))
 
-returns-2 : tie.Need-returns-2
+returns-2 : tie.Need-returns-else-all-start-lt8
 returns-2 c =
-    let a = c.before.args in
+    let a = c.args in
     let e : a.start + 8 - a.start ≡ 8 = omega arith in
     (omega arith, omega arith, ap (λ (n : ℕ). take n (drop a.start a.bytes.now)) e)
 

@@ -7,13 +7,13 @@ use Rattle.listing.proofs.columns.Filling.{past_end}
 use Rattle.listing.proofs.columns.name_start.Statement.{statement}
 use Rattle.listing.proofs.columns.name_start.Tie as tie
 
-returns : tie.Need-returns
-returns c = let a = c.before.args in (omega arith, past_end a.bytes.now (a.names + 8 * a.object) (omega arith))
+returns : tie.Need-returns-then-all-names
+returns c = let a = c.args in (omega arith, past_end a.bytes.now (a.names + 8 * a.object) (omega arith))
 
-returns-2 : tie.Need-returns-2
-returns-2 c = let a = c.before.before.args in (omega arith, past_end a.bytes.now (a.names + 8 * a.object) (omega arith))
+returns-2 : tie.Need-returns-then-all-names-2
+returns-2 c = let a = c.args in (omega arith, past_end a.bytes.now (a.names + 8 * a.object) (omega arith))
 
-returns-3 : tie.Need-returns-3
+returns-3 : tie.Need-returns
 returns-3 c = (omega arith, refl)
 
 pub name_start_spec : {M : Type 1} → statement M

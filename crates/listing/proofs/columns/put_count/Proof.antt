@@ -13,13 +13,9 @@ use Rattle.listing.proofs.columns.put_count.Tie as tie
 
 returns : tie.Need-returns
 returns c =
-    let put = c.before.before in
-    let filled = put.before.before.before.before in
-    let left = filled.before in
-    let dry = left.before.before.before in
-    let x = dry.before.before.before.args.n in
-    named (filled.put-spaces.ensures then put.put-digits2.ensures)
-    (search (ap (λ (n : ℕ). spaces n ++ digits 20 x) (left.left_over.ensures ∙ left_is 22 (omega arith) dry.put-digits.ensures)))
+    let x = c.args.n in
+    named (c.put_spaces-start.ensures then c.put_digits.ensures)
+    (search (ap (λ (n : ℕ). spaces n ++ digits 20 x) (c.left_over.ensures ∙ left_is 22 (omega arith) c.put_digits-length.ensures)))
 
 pub put_count_spec : {M : Type 1} → statement M
 put_count_spec =

@@ -12,20 +12,17 @@ use Rattle.listing.proofs.columns.Filling.{name_there}
 use Rattle.listing.proofs.columns.put_name_of.Statement.{statement}
 use Rattle.listing.proofs.columns.put_name_of.Tie as tie
 
-returns : tie.Need-returns
+returns : tie.Need-returns-then-names-eq0
 returns c =
-    let a = c.before.before.before.args in
+    let a = c.args in
     let none : 0 ≡ a.names = omega arith in
     named (nothing _ _) (ap (λ (n : ℕ). name_from a.bytes.now n a.object) none)
 
-returns-2 : tie.Need-returns-2
+returns-2 : tie.Need-returns
 returns-2 c =
-    let put = c.before.before in
-    let end = put.before.before.before in
-    let start = end.before in
-    let a = start.before.before.before.before.args in
-    named put.put-name.ensures
-    (search (ap name_text (end.name-end.ensures.2 ∙ ap (λ (l : List ℕ). take 8 l) start.name-start.ensures.1)
+    let a = c.args in
+    named c.put_name.ensures
+    (search (ap name_text (c.name_end-end.ensures.2 ∙ ap (λ (l : List ℕ). take 8 l) c.name_start-start.ensures.1)
     ∙ sym (name_there a.bytes.now a.names a.object (omega arith))))
 
 pub put_name_of_spec : {M : Type 1} → statement M
@@ -34,10 +31,10 @@ put_name_of_spec =
     (tie.spec
     returns
     (λ c κs. tt)
-    (λ c κs. c.name-start.ensures.0)
-    (λ c. omega (arith, c.before.name-end.ensures))
-    (λ c. omega (arith, c.before.name-end.ensures))
-    (λ c. omega (arith, c.before.name-end.ensures))
+    (λ c κs. c.name_start-start.ensures.0)
+    (λ c. omega (arith, c.name_end-end.ensures))
+    (λ c. omega (arith, c.name_end-end.ensures))
+    (λ c. omega (arith, c.name_end-end.ensures))
     (λ c κs. tt)
     (λ c. search rules)
     returns-2)

@@ -12,14 +12,10 @@ use Rattle.listing.proofs.columns.put_named.Tie as tie
 
 returns : tie.Need-returns
 returns c =
-    let filled = c.before.before in
-    let left = filled.before in
-    let put = left.before.before.before.before in
-    let dry = put.before.before.before in
-    let a = dry.before.before.before.before.args in
-    named (put.put-name-of2.ensures then filled.put-spaces.ensures)
+    let a = c.args in
+    named (c.put_name_of-end.ensures then c.put_spaces.ensures)
     (search (ap (λ (n : ℕ). name_from a.bytes.now a.names a.object ++ spaces n)
-    (left.left_over.ensures ∙ left_is 33 (omega arith) dry.put-name-of.ensures)))
+    (c.left_over.ensures ∙ left_is 33 (omega arith) c.put_name_of-length.ensures)))
 
 pub put_named_spec : {M : Type 1} → statement M
 put_named_spec =

@@ -13,13 +13,9 @@ use Rattle.listing.proofs.columns.put_object.Tie as tie
 
 returns : tie.Need-returns
 returns c =
-    let filled = c.before.before in
-    let left = filled.before in
-    let put = left.before.before.before.before in
-    let dry = put.before.before.before in
-    let object = dry.before.before.before.args.object in
-    named (put.put-digits2.ensures then filled.put-spaces.ensures)
-    (search (ap (λ (n : ℕ). digits 20 object ++ spaces n) (left.left_over.ensures ∙ left_is 8 (omega arith) dry.put-digits.ensures)))
+    let object = c.args.object in
+    named (c.put_digits-end.ensures then c.put_spaces.ensures)
+    (search (ap (λ (n : ℕ). digits 20 object ++ spaces n) (c.left_over.ensures ∙ left_is 8 (omega arith) c.put_digits-length.ensures)))
 
 pub put_object_spec : {M : Type 1} → statement M
 put_object_spec =

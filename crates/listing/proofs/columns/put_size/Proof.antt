@@ -12,13 +12,9 @@ use Rattle.listing.proofs.columns.put_size.Tie as tie
 
 returns : tie.Need-returns
 returns c =
-    let put = c.before.before in
-    let filled = put.before.before.before.before in
-    let left = filled.before in
-    let dry = left.before.before.before in
-    let x = dry.before.before.before.args.hundredths in
-    named (filled.put-spaces.ensures then put.put-decimals2.ensures)
-    (search (ap (λ (n : ℕ). spaces n ++ two_decimals x) (left.left_over.ensures ∙ left_is 22 (omega arith) dry.put-decimals.ensures)))
+    let x = c.args.hundredths in
+    named (c.put_spaces-start.ensures then c.put_decimals.ensures)
+    (search (ap (λ (n : ℕ). spaces n ++ two_decimals x) (c.left_over.ensures ∙ left_is 22 (omega arith) c.put_decimals-length.ensures)))
 
 pub put_size_spec : {M : Type 1} → statement M
 put_size_spec =

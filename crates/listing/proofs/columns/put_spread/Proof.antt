@@ -5,18 +5,14 @@ use Rattle.meaning.specs.Text.{ascii, each}
 use Rattle.listing.proofs.columns.put_spread.Statement.{statement}
 use Rattle.listing.proofs.columns.put_spread.Tie as tie
 
-returns : tie.Need-returns
+returns : tie.Need-returns-in-Of
 returns c =
-    let put = c.before.before in
-    let told = put.before.before in
-    named put.put-size.ensures (rw told.enum_told.given.1 (search rules))
+    named c.put_size.ensures (rw c.in-Of.is (search rules))
 
-returns-2 : tie.Need-returns-2
+returns-2 : tie.Need-returns-in-None
 unfolding ascii each
 returns-2 c =
-    let put = c.before.before in
-    let told = put.before.before.before in
-    named put.put-text.ensures (rw told.enum-told2.given.1 (search rules))
+    named c.put_text.ensures (rw c.in-None.is (search rules))
 
 pub put_spread_spec : {M : Type 1} → statement M
 put_spread_spec =
@@ -24,7 +20,6 @@ put_spread_spec =
     (tie.spec
     (λ c. search rules)
     (λ c κs. tt)
-    (λ c. search rules)
     (λ c. search rules)
     (λ c κs. tt)
     (λ c. search rules)

@@ -13,14 +13,9 @@ use Rattle.listing.proofs.columns.put_value.Tie as tie
 
 returns : tie.Need-returns
 returns c =
-    let put = c.before.before in
-    let filled = put.before.before.before.before in
-    let left = filled.before in
-    let dry = left.before.before.before in
-    let s = dry.before.before.before in
-    let read = to_z-of_z s.ranges.hundredths in
-    named (filled.put-spaces.ensures then put.put-counts2.ensures) (rw read (search (ap (λ (n : ℕ). spaces n ++ counts_text s.args.hundredths)
-    (left.left_over.ensures ∙ left_is 22 (omega arith) (rw read at dry.put-counts.ensures)))))
+    let read = to_z-of_z c.ranges.hundredths in
+    named (c.put_spaces-start.ensures then c.put_counts.ensures) (rw read (search (ap (λ (n : ℕ). spaces n ++ counts_text c.args.hundredths)
+    (c.left_over.ensures ∙ left_is 22 (omega arith) (rw read at c.put_counts-length.ensures)))))
 
 pub put_value_spec : {M : Type 1} → statement M
 put_value_spec =

@@ -5,16 +5,14 @@ use borrow.Author.Rules.{rules}
 use Rattle.listing.proofs.lines.put_last.Statement.{statement}
 use Rattle.listing.proofs.lines.put_last.Tie as tie
 
-returns : tie.Need-returns
+returns : tie.Need-returns-in-Of
 returns c =
-    let told = c.before.before.before.before in
-    named c.before.before.put-number.ensures (rw told.enum_told.given.1 (search rules))
+    named c.put_number.ensures (rw c.in-Of.is (search rules))
 
-returns-2 : tie.Need-returns-2
+returns-2 : tie.Need-returns-in-None
 unfolding ascii
 returns-2 c =
-    let told = c.before.before.before.before.before in
-    named c.before.before.put-text.ensures (rw told.enum-told2.given.1 (search rules))
+    named c.put_text.ensures (rw c.in-None.is (search rules))
 
 pub put_last_spec : {M : Type 1} → statement M
 put_last_spec =
@@ -22,7 +20,6 @@ put_last_spec =
     (tie.spec
     (λ c. search rules)
     (λ c κs. tt)
-    (λ c. search rules)
     (λ c. search rules)
     (λ c κs. tt)
     (λ c. search rules)

@@ -17,7 +17,7 @@ use Rattle.listing.proofs.second.listing_second.Statement.{statement}
 use Rattle.listing.proofs.second.listing_second.Tie as tie
 
 -- what solving promised, at any place after it
-module _ (c : tie.After-solve-second) where
+module _ (c : tie.After-solve_second-solved) where
   abbrev start : tie.Start
   start = c.before.before.before.before.before.before
 
@@ -25,50 +25,49 @@ module _ (c : tie.After-solve-second) where
   file = start.args.bytes.now
 
   abbrev values : List ℤ
-  values = c.solve-second.new.1.1.0
+  values = c.solve_second-solved.new.values
 
-  fits : (c.solve-second.result.parameters.v ≤ length c.solve-second.new.1.1.0)
-      × (c.solve-second.result.parameters.b ≤ length c.solve-second.new.1.1.1.0)
+  fits : (c.solve_second-solved.result.parameters.v ≤ length c.solve_second-solved.new.values)
+      × (c.solve_second-solved.result.parameters.b ≤ length c.solve_second-solved.new.deviations)
   fits = solved_fits2 file (replicate 2600 0) (replicate 50 (pos 0)) (replicate 1300 (pos 0)) (omega arith) refl (omega arith)
-      c.solve-second.ensures.0 c.solve-second.ensures.1.1.0 c.solve-second.ensures.1.1.1
+      c.solve_second-solved.ensures.0 c.solve_second-solved.ensures.1.1.0 c.solve_second-solved.ensures.1.1.1
 
-  few : c.solve-second.result.parameters.v ≤ 50
+  few : c.solve_second-solved.result.parameters.v ≤ 50
   few = solved_few2 file (replicate 2600 0) (replicate 50 (pos 0)) (replicate 1300 (pos 0)) (omega arith) refl (omega arith)
-      c.solve-second.ensures.0 c.solve-second.ensures.1.1.0 c.solve-second.ensures.1.1.1
+      c.solve_second-solved.ensures.0 c.solve_second-solved.ensures.1.1.0 c.solve_second-solved.ensures.1.1.1
 
-  text : sheet_text c.solve-second.result (take c.solve-second.result.parameters.v c.solve-second.new.1.1.0)
-      (column_of c.solve-second.new.1.1.0 c.solve-second.result.denominator (set_of (four_of file)))
-      (take c.solve-second.result.parameters.b c.solve-second.new.1.1.1.0) ≡ text_of2 file
+  text : sheet_text c.solve_second-solved.result (take c.solve_second-solved.result.parameters.v c.solve_second-solved.new.values)
+      (column_of c.solve_second-solved.new.values c.solve_second-solved.result.denominator (set_of (four_of file)))
+      (take c.solve_second-solved.result.parameters.b c.solve_second-solved.new.deviations) ≡ text_of2 file
   text = solved_text2 file (replicate 2600 0) (replicate 50 (pos 0)) (replicate 1300 (pos 0)) (omega arith) refl (omega arith)
-      c.solve-second.ensures.0 c.solve-second.ensures.1.1.0 c.solve-second.ensures.1.1.1
+      c.solve_second-solved.ensures.0 c.solve_second-solved.ensures.1.1.0 c.solve_second-solved.ensures.1.1.1
 
 -- the column
-module _ (c : tie.After-column) where
-  abbrev solved : tie.After-solve-second
+module _ (c : tie.After-column-hundredths) where
+  abbrev solved : tie.After-solve_second-solved
   solved = c.before.before.before.before.before.before
 
-  in_file : c.before.set-second.result ≡ set_of (four_of (file solved))
-  in_file = search c.before.set-second.ensures
+  in_file : c.set_second.result ≡ set_of (four_of (file solved))
+  in_file = search c.set_second.ensures
 
-  published : c.column.result ≡ column_of solved.solve-second.last.1.1.0 solved.solve-second.result.denominator (set_of (four_of (file solved)))
-  published = search c.column.ensures ∙ ap (λ (w : ℕ). column_of solved.solve-second.last.1.1.0 solved.solve-second.result.denominator w) in_file
+  published : c.column-hundredths.result ≡ column_of solved.solve_second-solved.new.values solved.solve_second-solved.result.denominator (set_of (four_of (file solved)))
+  published = search c.column-hundredths.ensures ∙ ap (λ (w : ℕ). column_of solved.solve_second-solved.new.values solved.solve_second-solved.result.denominator w) in_file
 
-  long : length c.column.result ≡ 50
+  long : length c.column-hundredths.result ≡ 50
   long = ap (λ (l : List ℤ). length l) published
-      ∙ length_over 50 (hundredths_from solved.solve-second.last.1.1.0 solved.solve-second.result.denominator (set_of (four_of (file solved))))
+      ∙ length_over 50 (hundredths_from solved.solve_second-solved.new.values solved.solve_second-solved.result.denominator (set_of (four_of (file solved))))
       (replicate 50 (pos 0))
 
 returns : tie.Need-returns
 returns c =
-    let k = c.before.before.before.before.before.before.before in
-    let s = solved k in
+    let s = solved c.before.before.before.before.before.before.before in
     let out = (start s).args.out.now in
-    let same : sheet_text s.solve-second.result (take s.solve-second.result.parameters.v s.solve-second.last.1.1.0) k.column.result
-    (take s.solve-second.result.parameters.b s.solve-second.last.1.1.1.0) ≡ text_of2 (file s) =
-    ap (λ (l : List ℤ). sheet_text s.solve-second.result (take s.solve-second.result.parameters.v s.solve-second.last.1.1.0) l
-    (take s.solve-second.result.parameters.b s.solve-second.last.1.1.1.0)) (published k) ∙ text s in (
-      search c.before.before.render-first.ensures.0 ∙ (λ j. text_answer (same j) (length out)),
-      search c.before.before.render-first.ensures.1 ∙ (λ j. text_after (same j) out),
+    let same : sheet_text s.solve_second-solved.result (take s.solve_second-solved.result.parameters.v s.solve_second-solved.new.values) c.column-hundredths.result
+    (take s.solve_second-solved.result.parameters.b s.solve_second-solved.new.deviations) ≡ text_of2 (file s) =
+    ap (λ (l : List ℤ). sheet_text s.solve_second-solved.result (take s.solve_second-solved.result.parameters.v s.solve_second-solved.new.values) l
+    (take s.solve_second-solved.result.parameters.b s.solve_second-solved.new.deviations)) (published c.before.before.before.before.before.before.before) ∙ text s in (
+      search c.render_first.ensures.0 ∙ (λ j. text_answer (same j) (length out)),
+      search c.render_first.ensures.1 ∙ (λ j. text_after (same j) out),
     )
 
 pub listing_second_spec : {M : Type 1} → statement M
@@ -84,6 +83,6 @@ listing_second_spec =
     (λ c. search rules)
     (λ c. search rules)
     (λ c. search rules)
-    (λ c κs. let k = c.before.before.before.before in let f = fits (solved k) in (f.0, omega (arith, long k, few (solved k)), f.1))
+    (λ c κs. let f = fits (solved c.before.before.before.before) in (f.0, omega (arith, long c.before.before.before.before, few (solved c.before.before.before.before)), f.1))
     (λ c. search rules)
     returns)

@@ -13,29 +13,28 @@ use Rattle.listing.specs.Sheet.{deviation_at, deviation_lines}
 use Rattle.listing.proofs.text.put_deviations.Statement.{statement}
 use Rattle.listing.proofs.text.put_deviations.Tie as tie
 
-abbrev invariant-loop : tie.invariant-loop
+abbrev invariant-loop : tie.invariant-loop-k
 invariant-loop out₀ at numerators denominator place₀ k₀ out place k = (k ≤ length numerators) × Wrote out₀ at (deviation_lines numerators denominator k) out place
 
-abbrev decreases-loop : tie.decreases-loop
+abbrev decreases-loop : tie.decreases-loop-k
 decreases-loop out₀ at numerators denominator place₀ k₀ out place k = length numerators - k
 
-loop-again : tie.Need-loop-preserved invariant-loop decreases-loop
+loop-again : tie.Need-loop-k-preserved invariant-loop decreases-loop
 loop-again c =
-    let a = c.before.before.before.before in
-    let l = a.before.before.loop in
+    let l = c.loop-k in
     let k = l.k in
-    let start = a.before.before.before.before.args in (
+    let start = c.args in (
       omega arith,
       more-lines (deviation_at start.numerators.now start.denominator) k l.invariant.1
-          (named c.before.before.put-deviation.ensures
-          (λ j. dev_line k (read_back (get_or start.numerators.now k (pos 0)) a.numerator.given j) start.denominator)),
+          (named c.put_deviation-place.ensures
+          (λ j. dev_line k (read_back (get_or start.numerators.now k (pos 0)) c.numerator-1.given j) start.denominator)),
     )
 
 returns : tie.Need-returns invariant-loop decreases-loop
 returns c =
-    let a = c.before.before.before.args in
-    let e : c.before.loop.k ≡ length a.numerators.now = omega arith in
-    named c.before.loop.invariant.1 (λ j. deviation_lines a.numerators.now a.denominator (e j))
+    let a = c.args in
+    let e : c.loop-k.k ≡ length a.numerators.now = omega arith in
+    named c.loop-k.invariant.1 (λ j. deviation_lines a.numerators.now a.denominator (e j))
 
 pub put_deviations_spec : {M : Type 1} → statement M
 put_deviations_spec =
@@ -50,5 +49,5 @@ put_deviations_spec =
     (λ c. omega arith)
     (λ c. omega arith)
     loop-again
-    (λ c. kept c.before.loop.invariant.1)
+    (λ c. kept c.loop-k.invariant.1)
     returns)

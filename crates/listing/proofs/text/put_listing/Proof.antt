@@ -5,24 +5,22 @@ use Rattle.listing.specs.Sheet.{sheet_text}
 use Rattle.listing.proofs.text.put_listing.Statement.{statement}
 use Rattle.listing.proofs.text.put_listing.Tie as tie
 
-returns : tie.Need-returns
+returns : tie.Need-returns-in-Accepted
 unfolding sheet_text
 returns c =
-    let told = c.before.before.before.before in
-    named c.before.before.put-job.ensures (rw told.enum_told.given.1 (search rules))
+    named c.put_job.ensures (rw c.in-Accepted.is (search rules))
 
-returns-2 : tie.Need-returns-2
+returns-2 : tie.Need-returns-in-Refused
 unfolding sheet_text
 returns-2 c =
-    let told = c.before.before.before.before.before in
-    named c.before.before.Put-refused.ensures (rw told.verdict.given.1 (search rules))
+    named c.put_refused.ensures (rw c.in-Refused.is (search rules))
 
 pub put_listing_spec : {M : Type 1} → statement M
 put_listing_spec =
     tie.close
     (tie.spec
     (λ c. search rules)
-    (λ c κs. search c.before.before.before.before.requires)
+    (λ c κs. search c.requires)
     (λ c. search rules)
     (λ c κs. tt)
     (λ c. search rules)

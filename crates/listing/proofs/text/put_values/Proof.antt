@@ -13,32 +13,30 @@ use Rattle.listing.specs.Sheet.{value_at, value_lines}
 use Rattle.listing.proofs.text.put_values.Statement.{statement}
 use Rattle.listing.proofs.text.put_values.Tie as tie
 
-abbrev invariant-loop : tie.invariant-loop
+abbrev invariant-loop : tie.invariant-loop-i
 invariant-loop out₀ at numerators hundredths denominator place₀ i₀ out place i = (i ≤ length numerators) ×
     Wrote out₀ at (value_lines numerators hundredths denominator i) out place
 
-abbrev decreases-loop : tie.decreases-loop
+abbrev decreases-loop : tie.decreases-loop-i
 decreases-loop out₀ at numerators hundredths denominator place₀ i₀ out place i = length numerators - i
 
-loop-again : tie.Need-loop-preserved invariant-loop decreases-loop
+loop-again : tie.Need-loop-i-preserved invariant-loop decreases-loop
 loop-again c =
-    let h = c.before.before.before.before in
-    let a = h.before in
-    let l = a.before.before.loop in
+    let l = c.loop-i in
     let i = l.i in
-    let start = a.before.before.before.before.args in
-    let back = read_back (get_or start.numerators.now i (pos 0)) a.numerator.given in
-    let hundredths = read_back (get_or start.hundredths.now i (pos 0)) h.published.given in (
+    let start = c.args in
+    let back = read_back (get_or start.numerators.now i (pos 0)) c.numerator-1.given in
+    let hundredths = read_back (get_or start.hundredths.now i (pos 0)) c.published-1.given in (
       omega arith,
       more-lines (value_at start.numerators.now start.hundredths.now start.denominator) i l.invariant.1
-          (named c.before.before.put-value.ensures (rw (hundredths, back) (search rules))),
+          (named c.put_value-place.ensures (rw (hundredths, back) (search rules))),
     )
 
 returns : tie.Need-returns invariant-loop decreases-loop
 returns c =
-    let a = c.before.before.before.args in
-    let e : c.before.loop.i ≡ length a.numerators.now = omega arith in
-    named c.before.loop.invariant.1 (λ j. value_lines a.numerators.now a.hundredths.now a.denominator (e j))
+    let a = c.args in
+    let e : c.loop-i.i ≡ length a.numerators.now = omega arith in
+    named c.loop-i.invariant.1 (λ j. value_lines a.numerators.now a.hundredths.now a.denominator (e j))
 
 pub put_values_spec : {M : Type 1} → statement M
 put_values_spec =
@@ -50,10 +48,10 @@ put_values_spec =
     (λ c. omega arith)
     (λ c. omega arith)
     (λ c. omega arith)
-    (λ c. omega (arith, c.before.before.before.before.requires))
+    (λ c. omega (arith, c.requires))
     (λ c κs. tt)
     (λ c. omega arith)
     (λ c. omega arith)
     loop-again
-    (λ c. kept c.before.loop.invariant.1)
+    (λ c. kept c.loop-i.invariant.1)
     returns)

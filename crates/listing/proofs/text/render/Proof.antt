@@ -8,26 +8,24 @@ use Rattle.listing.proofs.text.render.Statement.{statement}
 use Rattle.listing.proofs.text.render.Tie as tie
 
 -- no slice is longer than a usize counts
-short : (c : tie.After-one) → length c.before.before.args.out.now < 18446744073709551615
+short : (c : tie.After-one-1) → length c.args.out.now < 18446744073709551615
 short c = omega arith
 
-returns : tie.Need-returns
-returns c = no_room _ _ (omega arith) c.before.before.put-listing.ensures (omega arith)
+returns : tie.Need-returns-then-out-length
+returns c = no_room _ _ (omega arith) c.put_listing-length.ensures (omega arith)
 
-returns-2 : tie.Need-returns-2
+returns-2 : tie.Need-returns
 returns-2 c =
-    let w = c.before.before in
-    let d = w.before.before.before.before in
-    let room = w.before.before.if1.false in
-    in_room _ _ (short d.before) d.put-listing.ensures (omega (arith, room)) w.put-listing2.ensures
+    let room = c.if-out-length.false in
+    in_room _ _ (short c.before.before.before.before.before.before.before) c.put_listing-length.ensures (omega (arith, room)) c.put_listing.ensures
 
 pub render_spec : {M : Type 1} → statement M
 render_spec =
     tie.close
     (tie.spec
     (λ c. search rules)
-    (λ c κs. search c.before.before.requires)
+    (λ c κs. search c.requires)
     returns
-    (λ c κs. search c.before.before.before.before.before.before.requires)
+    (λ c κs. search c.requires)
     (λ c. search rules)
     returns-2)

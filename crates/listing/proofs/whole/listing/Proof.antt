@@ -17,7 +17,7 @@ use Rattle.listing.proofs.whole.listing.Statement.{statement}
 use Rattle.listing.proofs.whole.listing.Tie as tie
 
 -- what solving promised, at any place after it
-module _ (c : tie.After-solve) where
+module _ (c : tie.After-solve-solved) where
   abbrev start : tie.Start
   start = c.before.before.before.before.before.before
 
@@ -25,48 +25,47 @@ module _ (c : tie.After-solve) where
   file = start.args.bytes.now
 
   abbrev values : List ℤ
-  values = c.solve.new.1.1.0
+  values = c.solve-solved.new.values
 
-  fits : (c.solve.result.parameters.v ≤ length c.solve.new.1.1.0) × (c.solve.result.parameters.b ≤ length c.solve.new.1.1.1.0)
+  fits : (c.solve-solved.result.parameters.v ≤ length c.solve-solved.new.values) × (c.solve-solved.result.parameters.b ≤ length c.solve-solved.new.deviations)
   fits = solved_fits file (replicate 2600 0) (replicate 50 (pos 0)) (replicate 1300 (pos 0)) (omega arith) refl (omega arith)
-      c.solve.ensures.0 c.solve.ensures.1.1.0 c.solve.ensures.1.1.1
+      c.solve-solved.ensures.0 c.solve-solved.ensures.1.1.0 c.solve-solved.ensures.1.1.1
 
-  few : c.solve.result.parameters.v ≤ 50
+  few : c.solve-solved.result.parameters.v ≤ 50
   few = solved-few file (replicate 2600 0) (replicate 50 (pos 0)) (replicate 1300 (pos 0)) (omega arith) refl (omega arith)
-      c.solve.ensures.0 c.solve.ensures.1.1.0 c.solve.ensures.1.1.1
+      c.solve-solved.ensures.0 c.solve-solved.ensures.1.1.0 c.solve-solved.ensures.1.1.1
 
-  text : sheet_text c.solve.result (take c.solve.result.parameters.v c.solve.new.1.1.0)
-      (column_of c.solve.new.1.1.0 c.solve.result.denominator (set_of file))
-      (take c.solve.result.parameters.b c.solve.new.1.1.1.0) ≡ text_of file
+  text : sheet_text c.solve-solved.result (take c.solve-solved.result.parameters.v c.solve-solved.new.values)
+      (column_of c.solve-solved.new.values c.solve-solved.result.denominator (set_of file))
+      (take c.solve-solved.result.parameters.b c.solve-solved.new.deviations) ≡ text_of file
   text = solved-text file (replicate 2600 0) (replicate 50 (pos 0)) (replicate 1300 (pos 0)) (omega arith) refl (omega arith)
-      c.solve.ensures.0 c.solve.ensures.1.1.0 c.solve.ensures.1.1.1
+      c.solve-solved.ensures.0 c.solve-solved.ensures.1.1.0 c.solve-solved.ensures.1.1.1
 
 -- the column
-module _ (c : tie.After-column) where
-  abbrev solved : tie.After-solve
+module _ (c : tie.After-column-hundredths) where
+  abbrev solved : tie.After-solve-solved
   solved = c.before.before.before.before.before.before
 
-  in_file : c.before.before.held.result.set ≡ set_of (file solved)
-  in_file = ap (λ (h : Held). h.set) c.before.before.held.ensures
+  in_file : c.held-held.result.set ≡ set_of (file solved)
+  in_file = ap (λ (h : Held). h.set) c.held-held.ensures
 
-  published : c.column.result ≡ column_of solved.solve.last.1.1.0 solved.solve.result.denominator (set_of (file solved))
-  published = search c.column.ensures ∙ ap (λ (w : ℕ). column_of solved.solve.last.1.1.0 solved.solve.result.denominator w) in_file
+  published : c.column-hundredths.result ≡ column_of solved.solve-solved.new.values solved.solve-solved.result.denominator (set_of (file solved))
+  published = search c.column-hundredths.ensures ∙ ap (λ (w : ℕ). column_of solved.solve-solved.new.values solved.solve-solved.result.denominator w) in_file
 
-  long : length c.column.result ≡ 50
+  long : length c.column-hundredths.result ≡ 50
   long = ap (λ (l : List ℤ). length l) published
-      ∙ length_over 50 (hundredths_from solved.solve.last.1.1.0 solved.solve.result.denominator (set_of (file solved))) (replicate 50 (pos 0))
+      ∙ length_over 50 (hundredths_from solved.solve-solved.new.values solved.solve-solved.result.denominator (set_of (file solved))) (replicate 50 (pos 0))
 
 returns : tie.Need-returns
 returns c =
-    let k = c.before.before.before.before.before.before.before in
-    let s = solved k in
+    let s = solved c.before.before.before.before.before.before.before in
     let out = (start s).args.out.now in
-    let same : sheet_text s.solve.result (take s.solve.result.parameters.v s.solve.last.1.1.0) k.column.result
-    (take s.solve.result.parameters.b s.solve.last.1.1.1.0) ≡ text_of (file s) =
-    ap (λ (l : List ℤ). sheet_text s.solve.result (take s.solve.result.parameters.v s.solve.last.1.1.0) l
-    (take s.solve.result.parameters.b s.solve.last.1.1.1.0)) (published k) ∙ text s in (
-      search c.before.before.render-first.ensures.0 ∙ (λ j. text_answer (same j) (length out)),
-      search c.before.before.render-first.ensures.1 ∙ (λ j. text_after (same j) out),
+    let same : sheet_text s.solve-solved.result (take s.solve-solved.result.parameters.v s.solve-solved.new.values) c.column-hundredths.result
+    (take s.solve-solved.result.parameters.b s.solve-solved.new.deviations) ≡ text_of (file s) =
+    ap (λ (l : List ℤ). sheet_text s.solve-solved.result (take s.solve-solved.result.parameters.v s.solve-solved.new.values) l
+    (take s.solve-solved.result.parameters.b s.solve-solved.new.deviations)) (published c.before.before.before.before.before.before.before) ∙ text s in (
+      search c.render_first.ensures.0 ∙ (λ j. text_answer (same j) (length out)),
+      search c.render_first.ensures.1 ∙ (λ j. text_after (same j) out),
     )
 
 pub listing_spec : {M : Type 1} → statement M
@@ -82,6 +81,6 @@ listing_spec =
     (λ c. search rules)
     (λ c. search rules)
     (λ c. search rules)
-    (λ c κs. let k = c.before.before.before.before in let f = fits (solved k) in (f.0, omega (arith, long k, few (solved k)), f.1))
+    (λ c κs. let f = fits (solved c.before.before.before.before) in (f.0, omega (arith, long c.before.before.before.before, few (solved c.before.before.before.before)), f.1))
     (λ c. search rules)
     returns)

@@ -10,12 +10,12 @@ pub render_first_spec : {M : Type 1} → statement M
 render_first_spec =
     tie.close
     (tie.spec
-    (λ c. sym (length-take-le _ c.before.before.args.values.now (omega arith)))
-    (λ c. sym (length-take-le _ c.before.before.before.args.deviations.now (omega arith)))
+    (λ c. sym (length-take-le _ c.args.values.now (omega arith)))
+    (λ c. sym (length-take-le _ c.args.deviations.now (omega arith)))
     (λ c κs. omega (
       arith,
-      length-take-le _ c.before.before.before.before.args.values.now c.before.before.before.before.requires.0,
-      c.before.before.before.before.requires.1,
+      length-take-le _ c.args.values.now c.requires.0,
+      c.requires.1,
     ))
     (λ c. search rules)
     (λ c. search rules))

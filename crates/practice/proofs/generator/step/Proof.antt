@@ -6,7 +6,7 @@ use Rattle.practice.proofs.generator.step.Tie as tie
 
 returns : tie.Need-returns
 unfolding step
-returns c = omega (arith, c.before.wrapping-mul.ensures, c.wrapping-add-u32.ensures)
+returns c = omega (arith, c.wrapping_mul.ensures, c.wrapping_add_u32.ensures)
 
 pub step_spec : {M : Type 1} → statement M
 step_spec = tie.close (tie.spec (λ c κs. search rules) (λ c κs. search rules) returns)

@@ -1,6 +1,6 @@
 -- `practice::generator::wrapping_mul` meets its contract: the product of two numbers of 32 bits stands in 64, and the mask leaves it modulo 2 ^ 32.
 -- Assumes nothing.
-use Rattle.std.proofs.Common.{◌*◌, ◌^◌, ◌≤◌, mul-le-mul, arith}
+use Rattle.std.proofs.Common.{◌*◌, ◌≤◌, mul-le-mul, arith}
 use lib.Bits.{and_mask, mask_lt}
 use Rattle.practice.proofs.generator.wrapping_mul.Statement.{statement}
 use Rattle.practice.proofs.generator.wrapping_mul.Tie as tie
@@ -12,10 +12,10 @@ most c =
     let y : c.args.y ≤ 4294967295 = omega (arith, c.ranges.y.fits) in
     mul-le-mul x y
 
-mul_product : tie.Need-overflow-mul-product
+mul_product : tie.Need-overflow_mul-product
 mul_product c = omega (arith, most c)
 
-cast_result : tie.Need-overflow-cast-result
+cast_result : tie.Need-overflow_cast-result
 cast_result c = record { fits = search (mask_lt (c.args.x * c.args.y) 32) }
 
 returns : tie.Need-returns

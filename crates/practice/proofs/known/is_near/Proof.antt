@@ -6,17 +6,17 @@ use Rattle.meaning.specs.Practice.{truth_limit}
 use Rattle.practice.proofs.known.is_near.Statement.{statement}
 use Rattle.practice.proofs.known.is_near.Tie as tie
 
-returns : tie.Need-returns
-returns c = sym (lt-leb _ _ (too_low c.before.args.truth (truth_limit - 1) (search (rw (to_z-of_z c.before.ranges.truth) at c.if1.true))))
+returns : tie.Need-returns-then-truth
+returns c = sym (lt-leb _ _ (too_low c.args.truth (truth_limit - 1) (search (rw (to_z-of_z c.ranges.truth) at c.if-truth.true))))
 
-returns-2 : tie.Need-returns-2
-returns-2 c = sym (lt-leb _ _ (too_high c.before.before.args.truth truth_limit
-    (search (rw (to_z-of_z c.before.before.ranges.truth) at c.if2.true))))
+returns-2 : tie.Need-returns-then-truth-gt-TRUTH_LIMIT
+returns-2 c = sym (lt-leb _ _ (too_high c.args.truth truth_limit
+    (search (rw (to_z-of_z c.ranges.truth) at c.if-truth-gt-TRUTH_LIMIT.true))))
 
-returns-3 : tie.Need-returns-3
+returns-3 : tie.Need-returns
 returns-3 c =
-    let read = to_z-of_z c.before.before.ranges.truth in
-    sym (le-leb _ _ (between c.before.before.args.truth (truth_limit - 1) (rw read at c.before.if1.false) (search (rw read at c.if2.false))))
+    let read = to_z-of_z c.ranges.truth in
+    sym (le-leb _ _ (between c.args.truth (truth_limit - 1) (rw read at c.if-truth.false) (search (rw read at c.if-truth-gt-TRUTH_LIMIT.false))))
 
 pub is_near_spec : {M : Type 1} → statement M
 is_near_spec = tie.close (tie.spec (λ c. search rules) returns returns-2 returns-3)

@@ -1,5 +1,5 @@
 -- `practice::readings::sum_between` meets its contract: `sum` is the sum over the first i objects. Assumes nothing.
-use Rattle.std.proofs.Common.{◌≡◌, ℕ, ◌-◌, ◌<◌, ◌≤◌, length, ℤ, pos, ◌+ℤ◌, ◌-ℤ◌, ◌*ℤ◌, nat_abs, sym, refl, ap, ◌∙◌, ap₂, arith, lit<, w32, w64, SFits, to_z, rules}
+use Rattle.std.proofs.Common.{◌≡◌, ℕ, ◌-◌, ◌≤◌, length, ℤ, pos, ◌+ℤ◌, ◌-ℤ◌, ◌*ℤ◌, ap, ◌∙◌, ap₂, arith, lit<, w32, w64, SFits, to_z, rules}
 use Rattle.algebra.proofs.Numbers.{Num, local, unsigned, widened, widened_fits, small_fits, plus, plus_fits, minus, minus_fits, times, times_fits}
 use Rattle.meaning.specs.Analysis.{member}
 use Rattle.meaning.specs.Practice.{truth, truth_limit}
@@ -8,43 +8,43 @@ use Rattle.practice.proofs.Drawing.{among, among_none, among-more, among-all, am
 use Rattle.practice.proofs.readings.sum_between.Statement.{statement}
 use Rattle.practice.proofs.readings.sum_between.Tie as tie
 
-abbrev invariant-loop : tie.invariant-loop
+abbrev invariant-loop : tie.invariant-loop-i
 invariant-loop truths left right sum₀ i₀ sum i = (i ≤ length truths) × (to_z w64 sum ≡ among truths left right i)
 
-abbrev decreases-loop : tie.decreases-loop
+abbrev decreases-loop : tie.decreases-loop-i
 decreases-loop truths left right sum₀ i₀ sum i = length truths - i
 
 -- what a turn reads
-module _ (c : tie.After-truth invariant-loop decreases-loop) where
+module _ (c : tie.After-truth-1 invariant-loop decreases-loop) where
   abbrev start : tie.Start invariant-loop decreases-loop
   start = c.before.before.before
 
   abbrev i : ℕ
-  i = c.before.before.loop.i
+  i = c.loop-i.i
 
   abbrev element : ℤ
   element = truth start.args.truths.now i
 
   fits : SFits w32 element
-  fits = record { sfits = c.truth.given }
+  fits = record { sfits = c.truth-1.given }
 
   abbrev own : Num
-  own = widened element truth_limit fits (start.pre.most i (omega arith))
+  own = widened element truth_limit fits (start.requires.most i (omega arith))
 
   abbrev so_far : Num
-  so_far = local c.before.before.loop.sum 150000 c.before.before.loop.invariant.1
-      (among-small start.args.truths.now start.args.left start.args.right start.pre i (omega arith))
+  so_far = local c.loop-i.sum-bits 150000 c.loop-i.invariant.1
+      (among-small start.args.truths.now start.args.left start.args.right start.requires i (omega arith))
 
 -- the sign
-module _ (c : tie.After-holds2 invariant-loop decreases-loop) where
-  abbrev read : tie.After-truth invariant-loop decreases-loop
+module _ (c : tie.After-holds-in-loop-i invariant-loop decreases-loop) where
+  abbrev read : tie.After-truth-1 invariant-loop decreases-loop
   read = c.before.before
 
   abbrev left : Num
-  left = unsigned c.before.holds.result 1 (rw c.before.holds.ensures (bit-most _ (i read))) (lit< tt)
+  left = unsigned c.holds.result 1 (rw c.holds.ensures (bit-most _ (i read))) (lit< tt)
 
   abbrev right : Num
-  right = unsigned c.holds2.result 1 (rw c.holds2.ensures (bit-most _ (i read))) (lit< tt)
+  right = unsigned c.holds-in-loop-i.result 1 (rw c.holds-in-loop-i.ensures (bit-most _ (i read))) (lit< tt)
 
   abbrev sign : Num
   sign = minus left right (lit< tt)
@@ -56,9 +56,9 @@ module _ (c : tie.After-holds2 invariant-loop decreases-loop) where
   all = plus (so_far read) product (lit< tt)
 
   signed : sign.num ≡ pos (member (start read).args.left (i read)) -ℤ pos (member (start read).args.right (i read))
-  signed = ap₂ (λ (a b : ℕ). pos a -ℤ pos b) c.before.holds.ensures c.holds2.ensures
+  signed = ap₂ (λ (a b : ℕ). pos a -ℤ pos b) c.holds.ensures c.holds-in-loop-i.ensures
 
-loop-again : tie.Need-loop-preserved invariant-loop decreases-loop
+loop-again : tie.Need-loop-i-preserved invariant-loop decreases-loop
 loop-again c =
     let t = c in
     let s = start (read t) in
@@ -69,8 +69,8 @@ loop-again c =
 returns : tie.Need-returns invariant-loop decreases-loop
 returns c =
     let s = c.before.before in
-    let end : c.before.loop.i ≡ length s.args.truths.now = omega arith in
-    let whole = c.before.loop.invariant.1 ∙ ap (among s.args.truths.now s.args.left s.args.right) end
+    let end : c.loop-i.i ≡ length s.args.truths.now = omega arith in
+    let whole = c.loop-i.invariant.1 ∙ ap (among s.args.truths.now s.args.left s.args.right) end
     ∙ among-all s.args.truths.now s.args.left s.args.right in
     search whole
 
@@ -87,7 +87,7 @@ sum_between_spec =
     (λ c κs. search rules)
     (λ c. small_fits (pos c.holds.result) {B = 1} (rw c.holds.ensures (bit-most _ _)) (lit< tt))
     (λ c κs. search rules)
-    (λ c. small_fits (pos c.holds2.result) {B = 1} (rw c.holds2.ensures (bit-most _ _)) (lit< tt))
+    (λ c. small_fits (pos c.holds-in-loop-i.result) {B = 1} (rw c.holds-in-loop-i.ensures (bit-most _ _)) (lit< tt))
     (λ c. minus_fits (left c) (right c) (lit< tt))
     (λ c. times_fits (sign c) (own (read c)) (lit< tt))
     (λ c. plus_fits (so_far (read c)) (product c) (lit< tt))

@@ -18,22 +18,22 @@ use Rattle.writing.proofs.Shortened.{bits_short}
 use Rattle.writing.proofs.encoding.put_readings.Statement.{statement}
 use Rattle.writing.proofs.encoding.put_readings.Tie as tie
 
-abbrev invariant-loop : tie.invariant-loop
+abbrev invariant-loop : tie.invariant-loop-i
 invariant-loop out₀ at readings place₀ i₀ out place i = (i ≤ length readings) × Wrote out₀ at (readings_body (take i readings)) out place
 
-abbrev decreases-loop : tie.decreases-loop
+abbrev decreases-loop : tie.decreases-loop-i
 decreases-loop out₀ at readings place₀ i₀ out place i = length readings - i
 
 -- a turn
-module _ (c : tie.After-reading invariant-loop decreases-loop) where
+module _ (c : tie.After-reading-1 invariant-loop decreases-loop) where
   abbrev start : tie.Start invariant-loop decreases-loop
   start = c.before.before.before.before
 
   abbrev reading : ℤ
-  reading = get_or start.args.readings.now c.before.before.loop.i (pos 0)
+  reading = get_or start.args.readings.now c.loop-i.i (pos 0)
 
   fits : SFits w32 reading
-  fits = record { sfits = c.reading.given }
+  fits = record { sfits = c.reading-1.given }
 
   -- cast to 64 bits it is the same
   wide : to_z w64 (of_z w64 (to_z w32 (of_z w32 reading))) ≡ reading
@@ -41,22 +41,22 @@ module _ (c : tie.After-reading invariant-loop decreases-loop) where
 
   -- and its low four bytes are its bytes
   short : bytes_of 4 (wrapped 64 reading) ≡ bytes_of 4 (wrapped 32 reading)
-  short = bits_short reading c.reading.given
+  short = bits_short reading c.reading-1.given
 
-loop-again : tie.Need-loop-preserved invariant-loop decreases-loop
+loop-again : tie.Need-loop-i-preserved invariant-loop decreases-loop
 loop-again c =
     let put = c.before.before in
     let turn = put.before.before.before in
-    let l = turn.before.before.loop in (
+    let l = turn.loop-i in (
       omega arith,
       more-readings (start turn).args.readings.now l.i (omega arith) l.invariant.1
-          (named put.put-bytes.ensures (rw (put.before.bits.ensures, wide turn, short turn) (search rules))),
+          (named put.put_bytes-place.ensures (rw (put.bits.ensures, wide turn, short turn) (search rules))),
     )
 
 returns : tie.Need-returns invariant-loop decreases-loop
 returns c =
-    let readings = c.before.before.before.args.readings.now in
-    named c.before.loop.invariant.1 (ap readings_body (take_all c.before.loop.i readings (omega arith)))
+    let readings = c.args.readings.now in
+    named c.loop-i.invariant.1 (ap readings_body (take_all c.loop-i.i readings (omega arith)))
 
 pub put_readings_spec : {M : Type 1} → statement M
 put_readings_spec =
@@ -64,7 +64,7 @@ put_readings_spec =
     (tie.spec
     invariant-loop
     decreases-loop
-    (λ c. (omega arith, no_readings _ _ c.before.args.readings.now))
+    (λ c. (omega arith, no_readings _ _ c.args.readings.now))
     (λ c. omega arith)
     (λ c. omega arith)
     (λ c. widened_fits _ (fits c.before))
@@ -73,5 +73,5 @@ put_readings_spec =
     (λ c. omega arith)
     (λ c. omega arith)
     loop-again
-    (λ c. kept c.before.loop.invariant.1)
+    (λ c. kept c.loop-i.invariant.1)
     returns)

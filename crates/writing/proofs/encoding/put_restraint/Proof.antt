@@ -13,8 +13,8 @@ returns c =
     let c2 = c3.before.before.before.before.before in
     let c1 = c2.before.before.before.before in
     let start = c1.before.before.before in
-    let sum : c3.before.bits.result ≡ wrapped 64 start.args.sum = c3.before.bits.ensures ∙ ap (wrapped 64) (to_z-of_z start.ranges.sum) in
-    named (c1.put-start.ensures then (c2.put-bytes.ensures then c3.put-bytes2.ensures)) (rw (← sum) (search rules))
+    let sum : c3.bits.result ≡ wrapped 64 start.args.sum = c3.bits.ensures ∙ ap (wrapped 64) (to_z-of_z start.ranges.sum) in
+    named (c1.put_start-body.ensures then (c2.put_bytes-middle.ensures then c3.put_bytes.ensures)) (rw (← sum) (search rules))
 
 pub put_restraint_spec : {M : Type 1} → statement M
 put_restraint_spec =

@@ -8,7 +8,7 @@ returns : tie.Need-returns
 returns c =
     let c2 = c.before.before in
     let c1 = c2.before.before.before.before in
-    named (c1.put_byte.ensures then c2.put-bytes.ensures) (search rules)
+    named (c1.put_byte-next.ensures then c2.put_bytes.ensures) (search rules)
 
 pub put_start_spec : {M : Type 1} → statement M
 put_start_spec = tie.close (tie.spec (λ c κs. tt) (λ c κs. tt) (λ c. search rules) returns)

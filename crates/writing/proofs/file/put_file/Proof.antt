@@ -16,8 +16,8 @@ returns c =
     let c2 = c3.before.before.before.before in
     let c1 = c2.before.before.before.before in
     let start = c1.before.before.before.before in
-    named (c1.put-sizes.ensures then (c2.put-start.ensures then c3.put-text.ensures) then c4.put-restraint.ensures then
-    (c5.put-start2.ensures then c6.put-readings.ensures))
+    named (c1.put_sizes-second.ensures then (c2.put_start-blocks_at.ensures then c3.put_text-third.ensures) then c4.put_restraint-fourth.ensures then
+    (c5.put_start-readings_at.ensures then c6.put_readings.ensures))
     (rw (to_z-of_z start.ranges.sum, start.requires.1, start.requires.2) (search rules))
 
 pub put_file_spec : {M : Type 1} → statement M

@@ -8,7 +8,7 @@ returns : tie.Need-returns
 returns c =
     let c2 = c.before.before in
     let c1 = c2.before.before.before.before.before.before.before.before.before in
-    named (c1.put-start.ensures then c2.put-text.ensures) (search rules)
+    named (c1.put_start-body.ensures then c2.put_text.ensures) (search rules)
 
 pub put_sizes_spec : {M : Type 1} → statement M
 put_sizes_spec =

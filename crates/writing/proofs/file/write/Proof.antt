@@ -19,46 +19,46 @@ module _ (s : tie.Start) where
   verdict = write_verdict s.args.head s.args.blocks.now s.args.readings.now s.args.set s.args.sum (length s.args.out.now)
 
 -- what the tests say of it
-module _ (c : tie.After-write-refusal) where
+module _ (c : tie.After-write_refusal-verdict) where
   abbrev start : tie.Start
   start = c.before.before.before
 
-  told : c.write-refusal.result ≡ verdict (start)
+  told : c.write_refusal-verdict.result ≡ verdict (start)
   unfolding write_verdict
-  told = rw (to_z-of_z start.fits.sum) at c.write-refusal.ensures
+  told = rw (to_z-of_z start.ranges.sum) at c.write_refusal-verdict.ensures
 
 -- past them
-passed : (c : tie.Else1) → verdict c.before.before.before.before.before ≡ accepted
-passed c = sym (told c.before.before) ∙ accepting _ (sym c.before.is-refused.ensures ∙ c.if1.false)
+passed : (c : tie.Else-is_refused) → verdict c.before.before.before.before.before ≡ accepted
+passed c = sym (told c.before.before) ∙ accepting _ (sym c.is_refused.ensures ∙ c.if-is_refused.false)
 
-abbrev else1-start : tie.Else1 → tie.Start
+abbrev else1-start : tie.Else-is_refused → tie.Start
 else1-start c = c.before.before.before.before.before
 
 -- so the sizes fit, and the slices have their lengths
-fits : (c : tie.Else1) → let a = (else1-start c).args in Laid a.head a.blocks.now a.readings.now
+fits : (c : tie.Else-is_refused) → let a = (else1-start c).args in Laid a.head a.blocks.now a.readings.now
 fits c = let a = (else1-start c).args in
     fitting a.head a.blocks.now a.readings.now a.set a.sum a.out.now (passed c)
 
-returns : tie.Need-returns
+returns : tie.Need-returns-then-is_refused
 returns c =
-    let a = c.before.before.before.before.before.args in
-    let r = refusing _ (sym c.before.is-refused.ensures ∙ c.if1.true) in
+    let a = c.args in
+    let r = refusing _ (sym c.is_refused.ensures ∙ c.if-is_refused.true) in
     let w = unwritten a.head a.blocks.now a.readings.now a.set a.sum a.out.now _ _ (sym (told c.before.before) ∙ r) in
     rw r (search rules, search rules)
 
-returns-2 : tie.Need-returns-2
+returns-2 : tie.Need-returns
 returns-2 c =
     let s = c.before.before.before.before.before.before.before.before.before in
     let if1 = c.before.before.before.before in
     let a = s.args in
     let w = written a.head a.blocks.now a.readings.now a.set a.sum a.out.now (passed (if1))
     (rw (to_z-of_z s.ranges.sum) at
-    c.before.before.put-file.ensures) (omega arith) in
-    let passes : c.before.before.before.before.before.before.write-refusal.result ≡ accepted =
-    accepting _ (sym c.before.before.before.before.before.is-refused.ensures ∙ if1.if1.false) in
+    c.put_file-length.ensures) (omega arith) in
+    let passes : c.write_refusal-verdict.result ≡ accepted =
+    accepting _ (sym c.is_refused.ensures ∙ if1.if-is_refused.false) in
     rw passes (search rules, search rules)
 
-put_file_requires : tie.Need-put-file-requires
+put_file_requires : tie.Need-put_file-length-requires
 put_file_requires c κs = fits c.before
 
 pub write_spec : {M : Type 1} → statement M

@@ -9,24 +9,24 @@ use Rattle.writing.proofs.second.Verdicts.{names_absent, names-other, names-righ
 use Rattle.writing.proofs.second.names_refusal.Statement.{statement}
 use Rattle.writing.proofs.second.names_refusal.Tie as tie
 
-returns : tie.Need-returns
-returns c = let a = c.before.before.args in rw (names_absent a.head a.names.now (omega arith)) (search rules)
+returns : tie.Need-returns-then-names-eq0
+returns c = let a = c.args in rw (names_absent a.head a.names.now (omega arith)) (search rules)
 
 -- the sizes fit, so that these are the objects
-count : (c : tie.After-objects) → c.objects.result ≡ objects c.before.before.before.args.head
-count c = c.objects.ensures ∙ ap (λ (b : Bool). cond b (objects c.before.before.before.args.head) 0) c.before.before.before.requires
+count : (c : tie.After-objects) → c.objects.result ≡ objects c.args.head
+count c = c.objects.ensures ∙ ap (λ (b : Bool). cond b (objects c.args.head) 0) c.requires
 
-mul_if2 : tie.Need-overflow-mul-if2
-mul_if2 c = omega (arith, count c, (fits c.before.before.before.args.head c.before.before.before.requires).objects-most)
+mul_if2 : tie.Need-overflow_mul-objects
+mul_if2 c = omega (arith, count c, (fits c.args.head c.requires).objects-most)
 
-returns-2 : tie.Need-returns-2
+returns-2 : tie.Need-returns-then-names-objects
 returns-2 c =
-    let a = c.before.before.before.before.args in
+    let a = c.args in
     rw (names-other a.head a.names.now (λ e. omega arith) (λ e. omega (arith, count c.before))) (search rules)
 
-returns-3 : tie.Need-returns-3
+returns-3 : tie.Need-returns
 returns-3 c =
-    let a = c.before.before.before.before.args in
+    let a = c.args in
     rw (names-right a.head a.names.now (λ e. omega arith) (omega (arith, count c.before))) (search rules)
 
 pub names_refusal_spec : {M : Type 1} → statement M

@@ -8,12 +8,12 @@ use Rattle.laws.proofs.Edition2.{names-none, names-some}
 use Rattle.writing.proofs.second.names_room.Statement.{statement}
 use Rattle.writing.proofs.second.names_room.Tie as tie
 
-returns : tie.Need-returns
-returns c = rw (names-none c.before.args.names.now (omega arith)) (search rules)
+returns : tie.Need-returns-then-names-eq0
+returns c = rw (names-none c.args.names.now (omega arith)) (search rules)
 
-returns-2 : tie.Need-returns-2
+returns-2 : tie.Need-returns
 returns-2 c =
-    let names = c.before.args.names.now in
+    let names = c.args.names.now in
     rw (names-some names (omega arith), length-append (bytes_of 2 (length names)) names) (omega (arith, bytes-long 2 (length names)))
 
 pub names_room_spec : {M : Type 1} → statement M

@@ -7,17 +7,17 @@ use Rattle.laws.proofs.Edition2.{names-none, names-some}
 use Rattle.writing.proofs.second.put_names.Statement.{statement}
 use Rattle.writing.proofs.second.put_names.Tie as tie
 
-returns : tie.Need-returns
+returns : tie.Need-returns-then-names-eq0
 returns c =
-    let a = c.before.before.before.args in
+    let a = c.args in
     rw (names-none a.names.now (omega arith)) (search (nothing a.out.now a.at))
 
-returns-2 : tie.Need-returns-2
+returns-2 : tie.Need-returns
 returns-2 c =
     let two = c.before.before in
     let one = two.before.before.before.before in
-    let a = one.before.before.before.before.before.args in
-    named (one.put-start.ensures then two.put-text.ensures) (sym (names-some a.names.now (omega arith)))
+    let a = one.args in
+    named (one.put_start-body.ensures then two.put_text.ensures) (sym (names-some a.names.now (omega arith)))
 
 pub put_names_spec : {M : Type 1} → statement M
 put_names_spec = tie.close (tie.spec returns (λ c κs. tt) (λ c κs. tt) (λ c. search rules) returns-2)

@@ -13,7 +13,7 @@ returns c =
     let two = three.before.before.before.before in
     let one = two.before.before.before.before in
     let start = one.before.before.before.before.before.before in
-    named (one.put-text.ensures then two.put-file.ensures then three.put-names.ensures)
+    named (one.put_text-start.ensures then two.put_file-end.ensures then three.put_names.ensures)
     (rw (to_z-of_z start.ranges.sum) (search rules))
 
 pub put_second_spec : {M : Type 1} → statement M
@@ -22,7 +22,7 @@ put_second_spec =
     (tie.spec
     (λ c. search rules)
     (λ c κs. tt)
-    (λ c κs. c.before.before.before.before.before.before.before.before.before.requires)
+    (λ c κs. c.requires)
     (λ c κs. tt)
     (λ c. search rules)
     returns)

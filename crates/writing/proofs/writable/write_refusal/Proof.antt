@@ -21,35 +21,35 @@ module _ (s : tie.Start) where
   tests = job_verdict s.args.head s.args.blocks.now s.args.readings.now s.args.set s.args.sum
 
 -- what the call says of them
-module _ (c : tie.After-refusal) where
-  told : c.refusal.result ≡ tests c.before.before
-  told = rw (to_z-of_z c.before.before.ranges.sum) at c.refusal.ensures
+module _ (c : tie.After-refusal-verdict) where
+  told : c.refusal-verdict.result ≡ tests c.before.before
+  told = rw (to_z-of_z c.ranges.sum) at c.refusal-verdict.ensures
 
 -- past them
-module _ (c : tie.Else1) where
+module _ (c : tie.Else-is_refused) where
   passed : tests c.before.before.before.before ≡ accepted
-  passed = sym (told c.before.before) ∙ accepting _ (sym c.before.is-refused.ensures ∙ c.if1.false)
+  passed = sym (told c.before.before) ∙ accepting _ (sym c.is_refused.ensures ∙ c.if-is_refused.false)
 
-  fits : let a = c.before.before.before.before.args in Laid a.head a.blocks.now a.readings.now
-  fits = let a = c.before.before.before.before.args in laid a.head a.blocks.now a.readings.now a.set a.sum passed
+  fits : let a = c.args in Laid a.head a.blocks.now a.readings.now
+  fits = let a = c.args in laid a.head a.blocks.now a.readings.now a.set a.sum passed
 
-returns : tie.Need-returns
+returns : tie.Need-returns-then-is_refused
 returns c =
-    let r = refusing _ (sym c.before.is-refused.ensures ∙ c.if1.true) in
+    let r = refusing _ (sym c.is_refused.ensures ∙ c.if-is_refused.true) in
     rw (sym (told c.before.before) ∙ r) r
 
-add_length_2 : tie.Need-overflow-add-length-2
+add_length_2 : tie.Need-overflow_add-length-2
 add_length_2 c = let e = c in omega (arith, listed-most _ (fits e).0, (fits e).1, (fits e).2, (fits e).0.blocks-most)
 
-returns-2 : tie.Need-returns-2
+returns-2 : tie.Need-returns-then-space-length
 returns-2 c =
-    let a = c.before.before.before.before.before.args in
+    let a = c.args in
     let e = c.before in
     rw (passed e, lt-leb (file_length a.head) a.space (omega (arith, (fits e).1, (fits e).2))) (search rules)
 
-returns-3 : tie.Need-returns-3
+returns-3 : tie.Need-returns
 returns-3 c =
-    let a = c.before.before.before.before.before.args in
+    let a = c.args in
     let e = c.before in
     rw (passed e, le-leb (file_length a.head) a.space (omega (arith, (fits e).1, (fits e).2))) (search rules)
 

@@ -7,7 +7,7 @@ mod carding;
 mod check;
 mod figures;
 mod files;
-mod numbers;
+mod numerals;
 mod pairs;
 mod pooling;
 mod practising;

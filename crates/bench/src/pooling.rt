@@ -40,12 +40,17 @@ pub(crate) fn pool(rt: &HostRuntime, count: usize) {
     }
     let mut bytes = [0u8; 524288];
     let mut lengths = [0usize; 65];
-    let laid = lay_jobs(rt, jobs, &mut bytes, &mut lengths);
+    pool_in(rt, jobs, &mut bytes, &mut lengths);
+}
+
+// The same in lent rooms: for the bytes of the files, and for their lengths.
+fn pool_in(rt: &HostRuntime, jobs: usize, bytes: &mut [u8], lengths: &mut [usize]) {
+    let laid = lay_jobs(rt, jobs, bytes, lengths);
     if !laid.opened {
         return;
     }
-    let total = in_front(&bytes, laid.length);
-    let listed = lengths_in_front(&lengths, jobs);
+    let total = in_front(bytes, laid.length);
+    let listed = lengths_in_front(lengths, jobs);
     pool_jobs(rt, &bytes[..total], &lengths[..listed]);
 }
 

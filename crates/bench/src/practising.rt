@@ -4,7 +4,7 @@ ghost use Rattle.std.specs.Prelude.{◌≡◌, ◌≤◌, length, take};
 
 use crate::figures::read_verdict;
 use crate::files::{fields_start, in_front, looked_at, read_argument};
-use crate::numbers::number_argument;
+use crate::numerals::number_argument;
 use crate::refusals::refuse;
 use crate::said::put_line;
 use crate::verbs::{Verb, say_misused};

@@ -44,10 +44,12 @@ use Rattle.meaning.specs.Refusals.{◌⨾◌, accepted, refused, sizes, clean, i
 use Rattle.meaning.specs.Calls.{slices, contents, job_verdict, spreading_of, rooms, solved_under}
 use Rattle.laws.specs.Fits.{Fits}
 use Rattle.laws.proofs.Chains.{Sound, Readings, Job, opened, accepts, goes_on, test_yes, accepted-last, job}
-use Rattle.laws.proofs.Counting.{Numbers, parameters}
+use Rattle.laws.proofs.Counting.{Numbers}
+use Rattle.laws.proofs.CountingNumbers.{parameters}
 use Rattle.laws.proofs.Matrix.{difference_signs}
 use Rattle.laws.proofs.Analysis.{vbeta-some, q_nonneg}
-use Rattle.laws.proofs.Sizes.{vbeta-most, squared_readings_most, q_most}
+use Rattle.laws.proofs.Sizes.{squared_readings_most}
+use Rattle.laws.proofs.SizesMost.{vbeta-most, q_most}
 use Rattle.arithmetic.specs.Hundredths.{spreading_from, hundredths_from}
 use Rattle.arithmetic.proofs.Spreads.{hundredths-is, spread_range, q_words}
 use Rattle.weighing.proofs.SquareSums.{readings-squares}

@@ -19,7 +19,7 @@ use Rattle.meaning.specs.Analysis.{member, numerator_of, denominator_of}
 use Rattle.meaning.specs.Publishing.{part, floor, nearest_hundredths, before, rank, shortfall, published}
 use Rattle.laws.proofs.Chains.{Job}
 use Rattle.laws.proofs.Analysis.{restraint-kept, job-denominator}
-use Rattle.laws.proofs.Sizes.{numerator-most, denominator-most}
+use Rattle.laws.proofs.SizesMost.{numerator-most, denominator-most}
 use Rattle.laws.proofs.Column.{shortfall-parts}
 use Rattle.words.proofs.Bits.{bit_past}
 use Rattle.arithmetic.specs.Quotient.{below_of, hundredths_of}

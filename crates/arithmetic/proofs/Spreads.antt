@@ -26,7 +26,7 @@ use Rattle.arithmetic.specs.Hundredths.{ranged, hundredths_from, spreading_from}
 use Rattle.laws.proofs.Rounding.{root-largest}
 use Rattle.laws.proofs.Chains.{Sound, Readings}
 use Rattle.laws.proofs.Analysis.{vbeta-some}
-use Rattle.laws.proofs.Sizes.{vbeta-most, q_most}
+use Rattle.laws.proofs.SizesMost.{vbeta-most, q_most}
 use Rattle.arithmetic.proofs.Words.{exact}
 
 -- ---- the range

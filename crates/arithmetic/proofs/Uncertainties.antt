@@ -30,7 +30,7 @@ use Rattle.meaning.specs.Certificate.{least_over, uncertainty_hundredths, uncert
 use Rattle.laws.proofs.Rounding.{root-largest}
 use Rattle.laws.proofs.Chains.{Job}
 use Rattle.laws.proofs.Analysis.{job-denominator}
-use Rattle.laws.proofs.Sizes.{denominator-most}
+use Rattle.laws.proofs.SizesMost.{denominator-most}
 use Rattle.laws.proofs.Variance.{factor-most}
 use Rattle.arithmetic.specs.Hundredths.{ranged}
 use Rattle.arithmetic.specs.Quotient.{quotient_of}

@@ -34,7 +34,7 @@ use Rattle.laws.proofs.Chains.{Job as Good, opened, accepts, test_yes, given_yes
 use Rattle.laws.proofs.Files.{file-job}
 use Rattle.laws.proofs.Edition2.{file_job2}
 use Rattle.laws.proofs.Column.{job_adds_up}
-use Rattle.laws.proofs.Sizes.{published-most}
+use Rattle.laws.proofs.SizesMost.{published-most}
 use Rattle.laws.proofs.Lengths.{refused-length}
 use Rattle.arithmetic.proofs.Uncertainties.{
   InRange,

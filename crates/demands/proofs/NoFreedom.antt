@@ -19,7 +19,8 @@ use Rattle.meaning.specs.Design.{objects, blocks, occ, left, right, balanced, be
 use Rattle.meaning.specs.Analysis.{sq, reading, sign, total, vbeta, squared_readings, squared_totals, qOf, freedom, deviation_of}
 use Rattle.laws.proofs.Chains.{Sound}
 use Rattle.laws.proofs.Incidence.{block_size}
-use Rattle.laws.proofs.Counting.{incidence, parameters}
+use Rattle.laws.proofs.Counting.{incidence}
+use Rattle.laws.proofs.CountingNumbers.{parameters}
 use Rattle.laws.proofs.Analysis.{vbeta-some, q_nonneg, squares_add}
 use Rattle.laws.proofs.Days.{deviations_add}
 

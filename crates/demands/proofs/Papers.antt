@@ -17,10 +17,11 @@ use Rattle.meaning.specs.Refusals.{accepted}
 use Rattle.meaning.specs.Calls.{given, word_at, design_verdict, no_table, table_of, judge_verdict}
 use Rattle.laws.proofs.Chains.{given_yes, Sound, sound, sound_accepted, accepts, test_yes, judged_sound, Job as Accepted, job}
 use Rattle.laws.proofs.Clean.{block-once, block-left, block-right}
-use Rattle.laws.proofs.Counting.{company_self, opposition_self, balanced-is, parameters}
+use Rattle.laws.proofs.Counting.{company_self, opposition_self, balanced-is}
+use Rattle.laws.proofs.CountingNumbers.{parameters}
 use Rattle.laws.proofs.Tables.{entry_of, entry_elsewhere}
 use Rattle.laws.proofs.Analysis.{totals_cancel, restraint-kept, q_nonneg, vbeta-some, job-denominator}
-use Rattle.laws.proofs.Sizes.{denominator-most, numerator-most, hundredths-most}
+use Rattle.laws.proofs.SizesMost.{denominator-most, numerator-most, hundredths-most}
 use Rattle.laws.proofs.Fractions.{Over, over_deviation, exact_deviation, exact-squares, exact_proper, squares_proper, spread-most, spread_cut}
 use Rattle.arithmetic.proofs.Floats.{float-near}
 use Rattle.words.proofs.Members.{bit_word}

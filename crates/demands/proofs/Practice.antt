@@ -45,7 +45,7 @@ use Rattle.laws.proofs.Practice.{
   true_q,
   true_k,
 }
-use Rattle.laws.proofs.Writing.{reads-back, file-length}
+use Rattle.laws.proofs.WritingBack.{reads-back, file-length}
 use Rattle.demands.specs.Job.{v, verdict_of, exact}
 use Rattle.demands.specs.Refusals.{seven, eleven, ten}
 use Rattle.demands.specs.Outcomes.{WritesOnly}

@@ -64,10 +64,11 @@ use Rattle.meaning.specs.Edition2.{
   to_first_verdict,
 }
 use Rattle.laws.proofs.Chains.{refused_is_not, opened, held, test_yes, goes_on, refused_stays, accepts, given_no, job}
-use Rattle.laws.proofs.Bytes.{bytes-long, read_bytes_at}
+use Rattle.laws.proofs.Bytes.{bytes-long}
+use Rattle.laws.proofs.BytesBack.{read_bytes_at}
 use Rattle.laws.proofs.Files.{filed, file-job}
 use Rattle.laws.proofs.Cut.{longest_file}
-use Rattle.laws.proofs.Writing.{reads-back, file-length}
+use Rattle.laws.proofs.WritingBack.{reads-back, file-length}
 use Rattle.laws.proofs.Edition2.{edited, whole, job_file2, optionals-end, text_length2, names-none, names-some, names-long, second-length}
 use Rattle.demands.specs.Job.{Job, job_in, v, b, verdict_of}
 use Rattle.demands.specs.Refusals.{

@@ -17,7 +17,7 @@ use Rattle.meaning.specs.Refusals.{accepted}
 use Rattle.laws.proofs.Chains.{Job as Good, job}
 use Rattle.laws.proofs.LeastSquares.{not-zero}
 use Rattle.laws.proofs.Analysis.{job-members, job-denominator}
-use Rattle.laws.proofs.Sizes.{denominator-most}
+use Rattle.laws.proofs.SizesMost.{denominator-most}
 use Rattle.laws.proofs.Fractions.{Over, over-+, over-squared, over-summed}
 use Rattle.laws.proofs.Variance.{values_linear, factor-squares, factor_products, factor-most, all-members}
 use Rattle.arithmetic.proofs.Floats.{float-near}

@@ -29,7 +29,8 @@ use Rattle.meaning.specs.Calls.{
   spreading_of,
 }
 use Rattle.laws.proofs.Chains.{opened, held, fits, readings-near, sliced, slices_sound, slices-readings, Measured, measured}
-use Rattle.laws.proofs.Sizes.{reading_squares_most, squared_totals_most, q_most}
+use Rattle.laws.proofs.Sizes.{reading_squares_most, squared_totals_most}
+use Rattle.laws.proofs.SizesMost.{q_most}
 use Rattle.arithmetic.proofs.Words.{exact}
 use Rattle.demands.specs.Demand2.{decimal_from}
 

@@ -16,7 +16,8 @@ use Rattle.meaning.specs.File.{fields, placed, read_verdict, read_answer}
 use Rattle.meaning.specs.Writing.{Bytes, file_of, file_length, ReadsAs, write_verdict, written_answer, written_after}
 use Rattle.laws.proofs.Chains.{opened, accepts, accepted-last, given_no, test_yes}
 use Rattle.laws.proofs.Files.{filed, file-job, read-moved}
-use Rattle.laws.proofs.Writing.{reads-back, file-length, file-bytes, the_file, one-file, writes_again}
+use Rattle.laws.proofs.Writing.{file-bytes, the_file, one-file, writes_again}
+use Rattle.laws.proofs.WritingBack.{reads-back, file-length}
 use Rattle.demands.specs.Job.{Job, job_in, verdict_of}
 use Rattle.demands.specs.Refusals.{ten}
 use Rattle.demands.specs.Writing.{WritingJobs, WritingFiles}

@@ -37,7 +37,7 @@ use Rattle.meaning.specs.Analysis.{
   qOf,
 }
 use Rattle.laws.proofs.Chains.{Sound, Job}
-use Rattle.laws.proofs.Counting.{parameters}
+use Rattle.laws.proofs.CountingNumbers.{parameters}
 use Rattle.laws.proofs.LeastSquares.{apart, rows_cancel}
 use Rattle.laws.proofs.Matrix.{signs_cancel, difference_signs, design_matrix}
 use Rattle.laws.proofs.Solution.{

@@ -1,23 +1,21 @@
 -- Numbers in bytes, both ways: what was written is read back, and what was read is written again.
 --     read-bytes, write_bytes       a number of c bytes
 --     twos-wrapped, wrapped-twos    a signed number of any width
---     read-numbers, write-numbers   signed numbers of four bytes, one after another
+--     write-numbers                 signed numbers of four bytes, one after another; read back in BytesBack
 -- Assumes nothing.
 use mathlib.Core.Path.{◌≡◌, refl, sym, ap, ap₂, ◌∙◌}
 use mathlib.Core.Bool.{Bool, true, false, cond}
 use mathlib.Core.List.{List, [], ◌∷◌, ◌++◌, append_assoc}
 use Prim.Native.Nat.{ℕ, zero, suc, ◌+◌, ◌-◌, ◌*◌, ◌/◌, ◌%◌, ◌^◌, ◌≤◌, ◌<◌}
-use native.Mathlib.Nat.{add-zero, pow-suc, div-lt_iff_lt-mul, lt_of_not-le, not-suc-le-zero}
+use native.Mathlib.Nat.{pow-suc, div-lt_iff_lt-mul, lt_of_not-le, not-suc-le-zero}
 use native.Mathlib.Decide.{dec_le}
 use native.Mathlib.Omega.{arith}
 use borrow.Author.Tests.{lt-ltb, le-ltb}
 use lib.Dec.{ltb, lit<}
 use lib.IntN.{ℤ, pos, negsuc, nat_abs, ◌-ℤ◌}
 use lib.ListN.{length, get_or, take, drop, length-append, length-drop, get_or-eq_default}
-use lib.Seq.{take-suc, take-add, drop-drop, drop_at, get_or-drop, get_or_at}
-use Rattle.meaning.specs.Analysis.{reading}
+use lib.Seq.{take-suc, take-add, drop-drop, get_or-drop, get_or_at}
 use Rattle.meaning.specs.File.{big, twos, numbers_at}
-use Rattle.meaning.specs.Refusals.{reading_limit}
 use Rattle.meaning.specs.Writing.{Bytes, bytes_of, wrapped, readings_body}
 
 -- ---- lists of bytes
@@ -86,10 +84,6 @@ read-bytes (suc c) x rest h =
     let below : get_or (bytes_of (suc c) x ++ rest) (0 + c) 0 ≡ x % 256 = ap (λ (l : List ℕ). get_or l (0 + c) 0) whole ∙ low in
     omega (arith, above, below)
 
--- at a place
-pub read_bytes_at : (s : List ℕ) (at c x : ℕ) (rest : List ℕ) → drop at s ≡ bytes_of c x ++ rest → x < 256 ^ c → big s at c ≡ x
-read_bytes_at s at c x rest e h = ap (λ (i : ℕ). big s i c) (sym (add-zero at)) ∙ big-drop s at 0 c ∙ ap (λ (l : List ℕ). big l 0 c) e ∙ read-bytes c x rest h
-
 -- what was read is written again
 pub write_bytes : (s : List ℕ) → Bytes s → (at c : ℕ) → at + c ≤ length s → bytes_of c (big s at c) ≡ take c (drop at s)
 unfolding big bytes_of
@@ -130,20 +124,6 @@ module _ (w : ℕ) (halves : 2 ^ w ≡ 2 ^ (w - 1) + 2 ^ (w - 1)) where
       by false = ap (wrapped w) (less-pos x (2 ^ w) h) ∙ omega arith
 
 -- ---- signed numbers of four bytes, one after another
-
--- what was written is read back
-pub read-numbers : (y : List ℤ) (s : List ℕ) (at : ℕ) (rest : List ℕ) → drop at s ≡ readings_body y ++ rest →
-    ((k : ℕ) → k < length y → nat_abs (reading y k) ≤ reading_limit) → numbers_at s at (length y) ≡ y
-unfolding numbers_at readings_body
-read-numbers [] s at rest e near = refl
-read-numbers (z ∷ y) s at rest e near =
-    let small : nat_abs z < 2 ^ 31 = omega (arith, near 0 (omega arith)) in
-    let here : drop at s ≡ bytes_of 4 (wrapped 32 z) ++ (readings_body y ++ rest) = e ∙ append_assoc (bytes_of 4 (wrapped 32 z)) (readings_body y) rest in
-    let next : drop (at + 4) s ≡ readings_body y ++ rest = sym (drop-drop 4 at s) ∙ ap (drop 4) here
-    ∙ drop_at (bytes_of 4 (wrapped 32 z)) (readings_body y ++ rest) 4 (bytes-long 4 (wrapped 32 z)) in
-    ap₂ (λ (x : ℤ) (xs : List ℤ). x ∷ xs)
-    (ap (twos 32) (read_bytes_at s at 4 (wrapped 32 z) (readings_body y ++ rest) here (wrapped-below 32 refl z small)) ∙ twos-wrapped 32 refl z small)
-    (read-numbers y s (at + 4) rest next (λ k l. near (suc k) (omega arith)))
 
 -- what was read is written again
 pub write-numbers : (s : List ℕ) → Bytes s → (at c : ℕ) → at + 4 * c ≤ length s → readings_body (numbers_at s at c) ≡ take (4 * c) (drop at s)

@@ -30,7 +30,8 @@ use Rattle.meaning.specs.CardText.{names_line, other_lines, others_at, four_text
 use Rattle.laws.proofs.Chains.{Job, job}
 use Rattle.laws.proofs.Files.{file-job}
 use Rattle.laws.proofs.Lengths.{refused-length}
-use Rattle.laws.proofs.Writing.{file-length, writes_again}
+use Rattle.laws.proofs.Writing.{writes_again}
+use Rattle.laws.proofs.WritingBack.{file-length}
 use Rattle.laws.proofs.Edition2.{four-part, four-inside, edition_front, Whole, whole, file_job2, Optionals, optional-fields}
 use Rattle.laws.proofs.CardsSteps.{Says, Any, then, state}
 use Rattle.laws.proofs.CardsFirst.{file_by, accepted_by, fourth, four-says, four-length, four-fields, other-part}

@@ -27,7 +27,7 @@ use Rattle.meaning.specs.Analysis.{member, members, restrained, numerator_of, de
 use Rattle.meaning.specs.Publishing.{floor, part, before, rank, shortfall, nearest_hundredths, member_hundredths, hundredths_in, published}
 use Rattle.laws.proofs.Chains.{Job}
 use Rattle.laws.proofs.Analysis.{restraint-kept, job-members, job-denominator}
-use Rattle.laws.proofs.Rounding.{published-near, published-even}
+use Rattle.laws.proofs.RoundingPublished.{published-near, published-even}
 
 -- ---- floors and parts
 

@@ -1,13 +1,12 @@
 -- When the test of balance holds, and the numbers of a balanced design.
 --     accepts_exactly               the test holds exactly for designs that are balanced
 --     company_symmetric, opposition_symmetric, company_self, opposition_self
---     parameters                    r, b, l1, l2 and beta, by counting in rows
+--     Numbers                       r, b, l1, l2 and beta, as counting in rows has them; they are proved in CountingNumbers
 -- Assumes nothing.
-use mathlib.Core.Path.{◌≡◌, sym, ◌∙◌, ap}
+use mathlib.Core.Path.{◌≡◌, sym, ◌∙◌}
 use mathlib.Core.Bool.{Bool, true, ◌&&◌}
 use mathlib.Core.List.{List}
 use Prim.Native.Nat.{ℕ, ◌+◌, ◌-◌, ◌*◌, ◌≤◌, ◌<◌}
-use native.Mathlib.Nat.{mul-pos}
 use native.Mathlib.Omega.{arith}
 use native.Mathlib.Decide.{ℕ_discrete, dec_lt}
 use lib.Dec.{eqb}
@@ -21,7 +20,7 @@ use Rattle.meaning.specs.Refusals.{accepted}
 use Rattle.meaning.specs.Calls.{design_verdict}
 use Rattle.laws.proofs.Chains.{Sound, sound}
 use Rattle.laws.proofs.Clean.{block-left, block-right, block-once}
-use Rattle.laws.proofs.Incidence.{Incidence, Even, Counts, times, self_together, self_against, counts}
+use Rattle.laws.proofs.Incidence.{Incidence, Even, self_together, self_against}
 
 -- ---- company and opposition do not mind which object is named first
 
@@ -115,11 +114,11 @@ accepts_exactly h d e = (
 -- ---- what counting says
 
 -- how often an object stands on each side
-abbrev on_left : Head → List ℕ → ℕ → ℕ → ℕ
+abbrev pub on_left : Head → List ℕ → ℕ → ℕ → ℕ
 on_left h d k i = occ i (left h d k)
 
 -- and on the right
-abbrev on_right : Head → List ℕ → ℕ → ℕ → ℕ
+abbrev pub on_right : Head → List ℕ → ℕ → ℕ → ℕ
 on_right h d k i = occ i (right h d k)
 
 -- the number of blocks in which object i stands
@@ -145,17 +144,9 @@ unfolding opposition
 opposition_self h d s i l = self_against (blocks h) (objects h) h.p (on_left h d) (on_right h d) (incidence h d s) i l
 
 -- a balanced design, with its bytes left behind
-balance_even : (h : Head) (d : List ℕ) (l1 l2 : ℕ) → Balanced h d l1 l2 → Even (blocks h) (objects h) (on_left h d) (on_right h d) l1 l2
+pub balance_even : (h : Head) (d : List ℕ) (l1 l2 : ℕ) → Balanced h d l1 l2 → Even (blocks h) (objects h) (on_left h d) (on_right h d) l1 l2
 unfolding company opposition
 balance_even h d l1 l2 b = record { company = b.together; opposition = b.against }
-
--- what counting says of a sound design that is balanced
-design-counts : (h : Head) (d : List ℕ) → Sound h d → balanced h d ≡ true →
-    Counts (blocks h) (objects h) h.p (company h d 1 0) (opposition h d 1 0) (times (blocks h) (on_left h d) (on_right h d))
-design-counts h d s e =
-    counts (blocks h) (objects h) h.p (on_left h d) (on_right h d) (incidence h d s) (company h d 1 0) (opposition h d 1 0)
-    (balance_even h d (company h d 1 0) (opposition h d 1 0) (balanced-is h d e)) (omega (arith, s.sizes.p_least))
-    (mul-pos s.sizes.m_least (omega (arith, s.sizes.n_least)))
 
 -- the numbers of a balanced design: with beta = l2 - l1, every object stands in r = beta (v - 1) blocks
 pub record Numbers (h : Head) (d : List ℕ) : Type 0 where
@@ -168,24 +159,3 @@ pub record Numbers (h : Head) (d : List ℕ) : Type 0 where
   pub shares : company h d 1 0 * (objects h - 1) ≡ beta h d * (objects h - 1) * (h.p - 1)
   pub opposes : opposition h d 1 0 * (objects h - 1) ≡ beta h d * (objects h - 1) * h.p
   pub enough : objects h - 1 ≤ blocks h
-
--- the parameters of a sound design that is balanced
-pub parameters : (h : Head) (d : List ℕ) → Sound h d → balanced h d ≡ true → Numbers h d
-unfolding beta
-parameters h d s e = record {
-  less = c.less;
-  beta-is = omega (arith, c.less);
-  positive = c.positive;
-  repeats = λ i l. company_self h d s i l ∙ c.repeats i l;
-  stands = c.repeats;
-  size = c.size;
-  shares = c.company 0 some ∙ ap (λ (z : ℕ). z * (h.p - 1)) (c.repeats 0 some);
-  opposes = c.opposition 0 some ∙ ap (λ (z : ℕ). z * h.p) (c.repeats 0 some);
-  enough = c.enough;
-}
-  where
-    c : Counts (blocks h) (objects h) h.p (company h d 1 0) (opposition h d 1 0) (times (blocks h) (on_left h d) (on_right h d))
-    c = design-counts h d s e
-
-    some : 0 < objects h
-    some = omega (arith, s.sizes.n_least)

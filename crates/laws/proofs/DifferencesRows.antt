@@ -1,6 +1,6 @@
 -- Designs by their differences, by computation: examples B, C, E and G of the request, and one design for each way in which a count can go wrong. Assumes
 -- nothing.
-use mathlib.Core.Bool.{Bool, true, false, ◌&&◌, not}
+use mathlib.Core.Bool.{Bool, true, ◌&&◌, not}
 use mathlib.Core.List.{List, [], ◌∷◌}
 use mathlib.Core.Path.{◌≡◌, refl}
 use Prim.Native.Nat.{ℕ}

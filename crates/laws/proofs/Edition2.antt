@@ -10,7 +10,7 @@
 use mathlib.Core.Path.{◌≡◌, refl, sym, ap, ◌∙◌}
 use mathlib.Core.Bool.{Bool, true, false, cond, not, ◌||◌, false≢true}
 use mathlib.Core.List.{List, [], ◌∷◌, ◌++◌}
-use Prim.Native.Nat.{ℕ, zero, suc, ◌+◌, ◌-◌, ◌*◌, ◌≤◌, ◌<◌}
+use Prim.Native.Nat.{ℕ, zero, suc, ◌+◌, ◌*◌, ◌≤◌, ◌<◌}
 use native.Mathlib.Omega.{arith}
 use borrow.Author.Tests.{eqb-true, eq-eqb, leb-true, leb-false, le-leb}
 use lib.Dec.{eqb, leb}
@@ -50,7 +50,8 @@ use Rattle.meaning.specs.Edition2.{
 }
 use Rattle.laws.proofs.Chains.{opened, held, test_yes, accepts, goes_on, refused_is_not}
 use Rattle.laws.proofs.Files.{filed, file-job}
-use Rattle.laws.proofs.Writing.{fielded, file-length}
+use Rattle.laws.proofs.Writing.{fielded}
+use Rattle.laws.proofs.WritingBack.{file-length}
 use Rattle.laws.proofs.Bytes.{bytes-long}
 use Rattle.laws.proofs.Enough.{job-length}
 use Rattle.laws.proofs.Lengths.{refused-length}

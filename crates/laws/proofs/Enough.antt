@@ -25,7 +25,7 @@ use Rattle.meaning.specs.Calls.{given, job_verdict, spreading_of}
 use Rattle.meaning.specs.File.{head_of, blocks_of, readings_of, set_of, sum_of, read_verdict}
 use Rattle.meaning.specs.Text.{each, value_line, dev_line, job_text, text_under, text_of, listed_answer, listed_after}
 use Rattle.laws.proofs.Chains.{job}
-use Rattle.laws.proofs.Sizes.{vbeta-most}
+use Rattle.laws.proofs.SizesMost.{vbeta-most}
 use Rattle.laws.proofs.Files.{file-job}
 use Rattle.laws.proofs.Lengths.{each-length, design-length, value-length, dev_length, spread-length, refused-length}
 

@@ -78,7 +78,7 @@ use Rattle.laws.proofs.Analysis.{
 }
 use Rattle.laws.proofs.Rounding.{spread-largest}
 use Rattle.laws.proofs.Column.{job-near, job_adds_up}
-use Rattle.laws.proofs.Sizes.{q_in_range}
+use Rattle.laws.proofs.SizesMost.{q_in_range}
 
 -- ---- a fraction over a given denominator
 

@@ -6,24 +6,23 @@
 --     grouped-accepted                 the theorem: the call accepts the list, with the counts r, 0, L1, L2
 -- Assumes nothing.
 use mathlib.Core.Path.{◌≡◌, refl, sym, ◌∙◌, ap, ap₂, subst}
-use mathlib.Core.Bool.{Bool, true, false, cond, not, ◌||◌}
+use mathlib.Core.Bool.{Bool, true, false, cond}
 use mathlib.Core.List.{List, [], ◌∷◌, ◌++◌, map, map-append}
 use Prim.Native.Nat.{ℕ, zero, suc, ◌+◌, ◌-◌, ◌*◌, ◌/◌, ◌%◌, ◌≤◌, ◌<◌}
-use native.Mathlib.Nat.{mod-lt, div-add-mod, mul-le-mul, mul-le-mul_left, div-lt_iff_lt-mul, le-div_iff_mul-le, zero-div, mul-suc, mul_comm, div-eq_of_lt, zero-add}
+use native.Mathlib.Nat.{mod-lt, div-add-mod, mul-le-mul, mul-le-mul_left, div-lt_iff_lt-mul, zero-div, mul-suc, mul_comm, zero-add}
 use native.Mathlib.Omega.{arith}
 use native.Mathlib.Decide.{ℕ_discrete, dec_lt}
 use lib.Arith.{digits_div}
 use lib.ListN.{length, get_or, take, drop, length-append, length-drop, length-map, take-append-drop, get_or-map}
-use lib.Seq.{take-suc, take-take, take_all, drop_at, take-append-le, drop-append-le, get_or-take, get_or-drop, length-take-le}
-use lib.Dec.{eqb, ltb}
-use borrow.Author.Tests.{eq-eqb, ne_eqb, lt-ltb, le-ltb}
-use Rattle.algebra.specs.Ranges.{first_from}
+use lib.Seq.{take-suc, take-take, take_all, drop_at, take-append-le, drop-append-le}
+use lib.Dec.{eqb}
+use borrow.Author.Tests.{eq-eqb, ne_eqb, lt-ltb}
 use Rattle.algebra.proofs.Tests.{first_from_none}
 use Rattle.algebra.proofs.Sums.{sumℕ_cong}
 use Rattle.records.specs.declared.Head.{Head}
 use Rattle.records.specs.declared.GroupCounts.{GroupCounts}
 use Rattle.meaning.specs.Design.{objects, blocks, occ, left, right, company, opposition, balanced, beta}
-use Rattle.meaning.specs.Refusals.{accepted, test}
+use Rattle.meaning.specs.Refusals.{accepted}
 use Rattle.meaning.specs.Groups.{
   left_of,
   right_of,
@@ -46,7 +45,8 @@ use Rattle.meaning.specs.Groups.{
 use Rattle.laws.proofs.Chains.{Sound, accepts, test_yes}
 use Rattle.laws.proofs.Occurrences.{Each, each_tail, occ-same, occ-other, occ-append, occ-here, occ_absent}
 use Rattle.laws.proofs.Clean.{left-objects, right-objects, left-length, right-length, block-once, part_length, part_byte}
-use Rattle.laws.proofs.Counting.{balanced-is, opposition_self, parameters}
+use Rattle.laws.proofs.Counting.{balanced-is, opposition_self}
+use Rattle.laws.proofs.CountingNumbers.{parameters}
 use Rattle.laws.proofs.Groups.{ListFits, Listed, is-listed, list-halves, EvenGroups, is_even_groups, all_alike, partial_counts, is_partial}
 
 -- ---- runs of numbers

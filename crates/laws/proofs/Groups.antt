@@ -4,10 +4,10 @@
 --     shared_symmetric, opposed_symmetric      the two counts do not mind which object is named first
 --     partial_is, is_partial, partial_counts   the test decides the relation, and the four numbers are those that are read off
 -- Assumes nothing.
-use mathlib.Core.Path.{◌≡◌, refl, sym, ◌∙◌, ap, ap₂, subst}
-use mathlib.Core.Bool.{Bool, true, false, cond, not, ◌&&◌, ◌||◌}
+use mathlib.Core.Path.{◌≡◌, refl, sym, ◌∙◌, ap, subst}
+use mathlib.Core.Bool.{Bool, true, false, not, ◌&&◌}
 use mathlib.Core.List.{List, [], ◌∷◌, ◌++◌}
-use Prim.Native.Nat.{ℕ, zero, suc, ◌+◌, ◌-◌, ◌*◌, ◌/◌, ◌%◌, ◌≤◌, ◌<◌}
+use Prim.Native.Nat.{ℕ, zero, suc, ◌+◌, ◌-◌, ◌*◌, ◌%◌, ◌≤◌, ◌<◌}
 use native.Mathlib.Nat.{mul-le-mul_left}
 use native.Mathlib.Omega.{arith}
 use native.Mathlib.Decide.{ℕ_discrete, dec_lt}
@@ -15,31 +15,12 @@ use lib.ListN.{length, get_or, take, drop}
 use lib.Seq.{take-add, drop-drop}
 use lib.Dec.{eqb, leb, ltb}
 use borrow.Author.Tests.{eq-eqb, ne_eqb, eqb-true, eqb-false, le-leb, leb-true, lt-ltb, ltb-true, ltb-false, not-false, not-true}
-use Rattle.algebra.specs.Ranges.{all, first_from}
+use Rattle.algebra.specs.Ranges.{all}
 use Rattle.algebra.proofs.Tests.{and_left, and_right, and_both, all-at, all-each, first-before, first_bounds, first_holds}
 use Rattle.records.specs.declared.GroupCounts.{GroupCounts}
 use Rattle.meaning.specs.Design.{occ}
-use Rattle.meaning.specs.Refusals.{accepted, length_is, test}
-use Rattle.meaning.specs.Groups.{
-  left_of,
-  right_of,
-  shared,
-  opposed,
-  one_group,
-  group_size,
-  even_groups,
-  PartiallyBalanced,
-  mate,
-  stranger,
-  counts_of,
-  meets_as,
-  partially_balanced,
-  list_sized,
-  in_groups,
-  strays,
-  stray,
-  list_verdict,
-}
+use Rattle.meaning.specs.Refusals.{accepted}
+use Rattle.meaning.specs.Groups.{left_of, right_of, shared, opposed, one_group, group_size, even_groups, PartiallyBalanced, mate, stranger, counts_of, meets_as, partially_balanced, list_sized, strays, stray, list_verdict}
 use Rattle.laws.proofs.Chains.{opened, held, accepts, test_yes}
 use Rattle.laws.proofs.Occurrences.{Each, occ-append, occ-same, occ_absent}
 use Rattle.laws.proofs.Counting.{company_in_symmetric, opposition_in_symmetric}

@@ -104,11 +104,6 @@ some-beta : (p b β c : ℕ) → 0 < p → 0 < b → 2 * p * b ≡ β * c → 0 
 some-beta p b zero c hp hb e = omega (arith, mul-pos hp hb)
 some-beta p b (suc β) c hp hb e = omega arith
 
--- there are at least v - 1 blocks
-blocks_enough : (p b β v w : ℕ) → 0 < p → 0 < β → 2 * p ≤ v → 2 * p * b ≡ β * (v * w) → w ≤ b
-blocks_enough p b β v w hp hβ hv e =
-    le_of_mul-le-mul_left {k = 2 * p} (omega (arith, mul-le-mul_right w hv, mul-le-mul_right (v * w) hβ)) (omega arith)
-
 module _ (b v p : ℕ) (l r : ℕ → ℕ → ℕ) (inc : Incidence b v p l r) where
   -- a block's row, weighted
   row : (k x y : ℕ) → k < b → sum_ℕ v (λ j. x * l k j + y * r k j) ≡ p * (x + y)
@@ -225,5 +220,10 @@ module _ (b v p : ℕ) (l r : ℕ → ℕ → ℕ) (inc : Incidence b v p l r) w
       opposition = meets_opposition;
     }
       where
+        -- there are at least v - 1 blocks
+        blocks_enough : (p b β v w : ℕ) → 0 < p → 0 < β → 2 * p ≤ v → 2 * p * b ≡ β * (v * w) → w ≤ b
+        blocks_enough p b β v w hp hβ hv e =
+            le_of_mul-le-mul_left {k = 2 * p} (omega (arith, mul-le-mul_right w hv, mul-le-mul_right (v * w) hβ)) (omega arith)
+
         turn : (x y z : ℕ) → x * (y * z) ≡ x * y * z
         turn x y z = omega arith

@@ -5,6 +5,7 @@ pub mod Occurrences
 pub mod Clean
 pub mod Incidence
 pub mod Counting
+pub mod CountingNumbers
 pub mod Tables
 pub mod DifferencesShifts
 pub mod DifferencesBlocks
@@ -18,13 +19,17 @@ pub mod Analysis
 pub mod Days
 pub mod Practice
 pub mod Rounding
+pub mod RoundingPublished
 pub mod Column
 pub mod Sizes
+pub mod SizesMost
 pub mod Files
 pub mod Fractions
 pub mod Variance
 pub mod Bytes
+pub mod BytesBack
 pub mod Writing
+pub mod WritingBack
 pub mod Lengths
 pub mod Enough
 pub mod Cut

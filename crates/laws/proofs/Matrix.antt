@@ -19,7 +19,8 @@ use Rattle.meaning.specs.Analysis.{sign, difference}
 use Rattle.laws.proofs.Chains.{Sound}
 use Rattle.laws.proofs.Occurrences.{along-occ}
 use Rattle.laws.proofs.Clean.{left-objects, right-objects, block-left, block-right}
-use Rattle.laws.proofs.Counting.{Numbers, parameters, balanced-is, opposition_self}
+use Rattle.laws.proofs.Counting.{Numbers, balanced-is, opposition_self}
+use Rattle.laws.proofs.CountingNumbers.{parameters}
 use Rattle.laws.proofs.LeastSquares.{Matrix}
 
 -- the signs of a block add to 0, in every sound design

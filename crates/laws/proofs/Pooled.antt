@@ -2,7 +2,7 @@
 --     file-beta, file_q, file-freedom, file-vbeta    of one accepted file
 --     pooled_q, pooled_freedom                        of several
 -- Assumes nothing.
-use Prim.Native.Nat.{ℕ, ◌+◌, ◌-◌, ◌*◌, ◌≤◌, ◌<◌}
+use Prim.Native.Nat.{ℕ, ◌-◌, ◌*◌, ◌≤◌, ◌<◌}
 use mathlib.Core.Path.{◌≡◌}
 use mathlib.Core.List.{List, [], ◌∷◌}
 use native.Mathlib.Decide.{dec_le}
@@ -16,7 +16,7 @@ use Rattle.laws.specs.Limits.{qLimit}
 use Rattle.laws.proofs.Chains.{Measured, job, opened}
 use Rattle.laws.proofs.Files.{file-job}
 use Rattle.laws.proofs.Analysis.{vbeta-some}
-use Rattle.laws.proofs.Sizes.{q_most, vbeta-most}
+use Rattle.laws.proofs.SizesMost.{q_most, vbeta-most}
 
 -- ---- one accepted file
 

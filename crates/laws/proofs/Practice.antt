@@ -5,7 +5,7 @@
 --     practice_job_lem                  so a practice job is judged by its restraint alone, once practice is accepted
 --     true-values, true-deviations, true_q    width 0 with M the true sum: the true values, no deviation, no Q
 -- Assumes nothing.
-use mathlib.Core.Path.{◌≡◌, refl, sym, ◌∙◌, ap, ap₂, subst}
+use mathlib.Core.Path.{◌≡◌, refl, sym, ◌∙◌, ap, ap₂}
 use mathlib.Core.Logic.{⊎_elim}
 use mathlib.Core.Bool.{Bool, true, false, cond, ◌&&◌}
 use mathlib.Core.List.{List}
@@ -15,7 +15,7 @@ use native.Mathlib.Omega.{arith}
 use borrow.Author.Tests.{eq-eqb, eqb-true, leb-true, ltb-true, ltb-false, le-ltb}
 use lib.Dec.{eqb, leb, ltb}
 use lib.IntN.{ℤ, pos, negsuc, nat_abs, ◌+ℤ◌, ◌-ℤ◌, ◌*ℤ◌}
-use lib.ListN.{get_or, length}
+use lib.ListN.{length}
 use Rattle.algebra.specs.Ranges.{sum}
 use Rattle.algebra.proofs.Bounds.{abs_between, abs-+, abs-*-le, abs_sum}
 use Rattle.algebra.proofs.Order.{pos_inj, *ℤ-is-zero}
@@ -46,11 +46,10 @@ use Rattle.meaning.specs.Analysis.{
 }
 use Rattle.meaning.specs.Refusals.{◌⨾◌, accepted, clean, in_balance, restraint, far_reading, in_reach, reading_limit}
 use Rattle.meaning.specs.Calls.{slices, contents, job_verdict}
-use Rattle.meaning.specs.Practice.{step, state, noise, truth, truth_limit, width_limit, near, known, practised, practice_reading, listed, practice_readings, true_sum}
-use Rattle.laws.specs.Fits.{Fits}
+use Rattle.meaning.specs.Practice.{step, state, noise, truth, truth_limit, width_limit, near, practised, practice_reading, listed, practice_readings, true_sum}
 use Rattle.laws.proofs.Chains.{opened, held, accepts, goes_on, accepted-last, test_yes, fits, sized_yes, Sound}
 use Rattle.laws.proofs.Clean.{block-once}
-use Rattle.laws.proofs.LeastSquares.{fit, totals, normal_operator, fit_linear, not-zero}
+use Rattle.laws.proofs.LeastSquares.{fit, normal_operator, fit_linear, not-zero}
 use Rattle.laws.proofs.Matrix.{signs_cancel, difference_signs, design_matrix}
 use Rattle.laws.proofs.Analysis.{squares_add, vbeta-some}
 

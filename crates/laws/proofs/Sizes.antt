@@ -1,88 +1,49 @@
 -- How large the numbers of an accepted job are over the whole range of the request: they all fit 64 bits, but for 10,000 Q, and what is cast to an
 -- f64 is below 2^53.
---     repeats_most, vbeta-most                           β(v-1) is at most b, so vβ is at most 2,600
---     total-most, restrained-most, difference-most       sums over blocks, over the restraint set, over a block
---     numerator-most, denominator-most, deviation_most   what is list_length
---     squared_readings_most, squared_totals_most, q_most, ratio_most, hundredths-most   what the spread is made from
+--     repeats_most                                                β(v-1) is at most b
+--     total-most, restrained-most, difference-most                sums over blocks, over the restraint set, over a block
+--     squared_readings_most, squared_totals_most, q_by_vbeta, ratio_most   what the spread is made from
+-- What vβ bounds stands in SizesMost.
 -- Assumes nothing.
 use mathlib.Core.Path.{◌≡◌, refl, ap, subst}
 use mathlib.Core.Bool.{true}
 use mathlib.Core.List.{List}
-use Prim.Native.Nat.{ℕ, zero, suc, ◌+◌, ◌-◌, ◌*◌, ◌/◌, ◌^◌, ◌≤◌, ◌<◌}
-use native.Mathlib.Nat.{mul-le-mul, mul-le-mul_left, mul-le-mul_right, le_of_mul-le-mul_left, mul-pos, div-add-mod'}
+use Prim.Native.Nat.{ℕ, ◌+◌, ◌-◌, ◌*◌, ◌/◌, ◌≤◌, ◌<◌}
+use native.Mathlib.Nat.{mul-le-mul_left, mul-le-mul_right, le_of_mul-le-mul_left, mul-pos, div-add-mod'}
 use native.Mathlib.Omega.{arith}
-use native.Mathlib.Decide.{dec_lt}
-use borrow.Author.Tests.{ltb-true}
-use lib.IntN.{ℤ, pos, nat_abs, ◌-ℤ◌, ◌*ℤ◌}
+use lib.IntN.{ℤ, pos, nat_abs, ◌*ℤ◌}
 use lib.Signed.{◌≤ℤ◌}
 use Rattle.algebra.specs.Ranges.{sum, sum_ℕ}
 use Rattle.algebra.proofs.Solver.{◌⊕◌, ◌⊝◌, ◌≐◌, ring₂}
 use Rattle.algebra.proofs.Order.{le-+, pos_nonneg}
 use Rattle.algebra.proofs.Sums.{sum_sq_nonneg}
-use Rattle.algebra.proofs.Bounds.{abs-*, abs-+, abs_sub, abs-*-le, abs_mono, abs_square, abs_sum, abs_weighted}
+use Rattle.algebra.proofs.Bounds.{abs-*, abs_sub, abs-*-le, abs_mono, abs_square, abs_sum, abs_weighted}
 use Rattle.records.specs.declared.Head.{Head}
 use Rattle.meaning.specs.Design.{objects, blocks, occ, left, right, balanced, beta}
-use Rattle.meaning.specs.Analysis.{
-  sq,
-  reading,
-  sign,
-  total,
-  member,
-  members,
-  restrained,
-  vbeta,
-  numerator_of,
-  denominator_of,
-  difference,
-  deviation_of,
-  squared_readings,
-  squared_totals,
-  q,
-  qOf,
-  freedom,
-  spread_hundredths,
-  spread_hundredths_of,
-}
-use Rattle.meaning.specs.Publishing.{published}
-use Rattle.laws.proofs.Chains.{Sound, Readings, Job}
+use Rattle.meaning.specs.Analysis.{sq, reading, sign, total, member, members, restrained, vbeta, difference, squared_readings, squared_totals, q, qOf}
+use Rattle.laws.proofs.Chains.{Sound, Readings}
 use Rattle.laws.proofs.Clean.{block-once}
 use Rattle.laws.proofs.Incidence.{block_size}
-use Rattle.laws.proofs.Counting.{incidence, parameters}
+use Rattle.laws.proofs.Counting.{incidence}
+use Rattle.laws.proofs.CountingNumbers.{parameters}
 use Rattle.laws.proofs.Matrix.{difference_signs}
 use Rattle.laws.proofs.Solution.{members-most}
 use Rattle.laws.proofs.Analysis.{q_nonneg, vbeta-some}
-use Rattle.meaning.specs.Refusals.{reading_limit, sum_limit}
+use Rattle.meaning.specs.Refusals.{reading_limit}
 use Rattle.laws.specs.Fits.{Fits}
-use Rattle.laws.specs.Limits.{total_limit, squares_limit, qLimit, numerator_limit}
-use Rattle.laws.proofs.Rounding.{spread-largest}
-use Rattle.laws.proofs.Column.{published-size}
+use Rattle.laws.specs.Limits.{total_limit, squares_limit}
 
 -- ---- the parameters
-
--- β v (v - 1) = 2 p b with 2 p at most v, so β (v - 1) is at most b
-fewer_than_blocks : (β v w p b : ℕ) → 0 < v → 2 * p ≤ v → 2 * p * b ≡ β * v * w → β * w ≤ b
-fewer_than_blocks β v w p b l m e = le_of_mul-le-mul_left {k = v} (omega (arith, e, mul-le-mul_right b m)) l
 
 module _ (h : Head) (d : List ℕ) (s : Sound h d) (e : balanced h d ≡ true) where
   -- no object stands in more blocks than there are
   pub repeats_most : beta h d * (objects h - 1) ≤ blocks h
   repeats_most = fewer_than_blocks (beta h d) (objects h) (objects h - 1) h.p (blocks h)
       (omega (arith, s.sizes.n_least)) s.sizes.sides-fit (parameters h d s e).size
-
-  -- vβ is at most 2,600
-  pub vbeta-most : vbeta h d ≤ 2600
-  vbeta-most = go (beta h d) (objects h) (objects h - 1) (omega (arith, s.sizes.n_least)) (omega (arith, s.sizes.n_least))
-      (omega (arith, repeats_most, s.sizes.blocks-most))
     where
-      go : (β v w : ℕ) → v ≡ w + 1 → 1 ≤ w → β * w ≤ 1300 → v * β ≤ 2600
-      go β v w a b c = omega (arith, ap (λ (z : ℕ). z * β) a, mul-le-mul_left β b)
-
-  -- a denominator is at most 130,000
-  pub denominator-most : (w : ℕ) → denominator_of h d w ≤ 130000
-  unfolding denominator_of
-  denominator-most w =
-      let t : members (objects h) w ≤ 50 = omega (arith, members-most (objects h) w, s.sizes.objects-most) in
-      omega (arith, mul-le-mul t vbeta-most)
+      -- β v (v - 1) = 2 p b with 2 p at most v, so β (v - 1) is at most b
+      fewer_than_blocks : (β v w p b : ℕ) → 0 < v → 2 * p ≤ v → 2 * p * b ≡ β * v * w → β * w ≤ b
+      fewer_than_blocks β v w p b l m e = le_of_mul-le-mul_left {k = v} (omega (arith, e, mul-le-mul_right b m)) l
 
 -- ---- sums
 
@@ -153,30 +114,6 @@ module _ (h : Head) (d : List ℕ) (s : Sound h d) where
     )
 
     module _ (e : balanced h d ≡ true) where
-      -- a value's numerator
-      pub numerator-most : (w : ℕ) (M : ℤ) (i : ℕ) → nat_abs M ≤ sum_limit → nat_abs (numerator_of h d y w M i) ≤ numerator_limit
-      unfolding numerator_of
-      numerator-most w M i m =
-          let t : members (objects h) w ≤ 50 = omega (arith, members-most (objects h) w, s.sizes.objects-most) in
-          omega (
-            arith,
-            abs-+ (pos (members (objects h) w) *ℤ total h d y i -ℤ restrained (objects h) w (total h d y)) (pos (vbeta h d) *ℤ M),
-            abs_sub (pos (members (objects h) w) *ℤ total h d y i) (restrained (objects h) w (total h d y)),
-            abs-*-le (pos (members (objects h) w)) (total h d y i) 50 total_limit t (total-most i),
-            restrained-most (objects h) w (omega arith),
-            abs-*-le (pos (vbeta h d)) M 2600 sum_limit (vbeta-most h d s e) m,
-          )
-
-      -- a deviation's numerator
-      pub deviation_most : (k : ℕ) → k < blocks h → nat_abs (deviation_of h d y k) ≤ 2600 * reading_limit + 50 * total_limit
-      unfolding deviation_of
-      deviation_most k l = omega (
-        arith,
-        abs_sub (pos (vbeta h d) *ℤ reading y k) (difference h d (total h d y) k),
-        abs-*-le (pos (vbeta h d)) (reading y k) 2600 reading_limit (vbeta-most h d s e) (r.readings-most k l),
-        difference-most total_limit (total h d y) k l (λ i m. total-most i),
-      )
-
       -- Q, by vβ
       pub q_by_vbeta : qOf h d y ≤ vbeta h d * squares_limit
       unfolding qOf squared_totals
@@ -189,48 +126,9 @@ module _ (h : Head) (d : List ℕ) (s : Sound h d) where
         mul-le-mul_left (vbeta h d) squared_readings_most,
       )
 
-      -- Q
-      pub q_most : qOf h d y ≤ qLimit
-      q_most = omega (arith, q_by_vbeta, vbeta-most h d s e)
-
-      -- 10,000 Q is in the range of the root
-      pub q_in_range : 10000 * qOf h d y < 4 ^ 64
-      q_in_range = under (10000 * qOf h d y) (10000 * qLimit) (omega (arith, q_most)) (ltb-true (10000 * qLimit) (4 ^ 64) refl)
-        where
-          under : (a b : ℕ) {c : ℕ} → a ≤ b → b < c → a < c
-          under a b l m = omega arith
-
       -- the ratio under the root, whatever f is
       pub ratio_most : (f : ℕ) → 0 < f → 10000 * qOf h d y / (vbeta h d * f) ≤ 10000 * squares_limit
       ratio_most f l = small (10000 * qOf h d y) (vbeta h d) f (vbeta-some h d s e) l (omega (arith, q_by_vbeta))
         where
           small : (x c f : ℕ) → 0 < c → 0 < f → x ≤ c * (10000 * squares_limit) → x / (c * f) ≤ 10000 * squares_limit
           small x c f lc lf m = le_of_mul-le-mul_left {k = c * f} (omega (arith, div-add-mod' x (c * f), m, mul-le-mul_left c lf)) (mul-pos lc lf)
-
-      -- k of the job
-      pub hundredths-most : spread_hundredths_of h d y ≤ 721110255092
-      unfolding spread_hundredths_of spread_hundredths
-      hundredths-most = go (freedom h)
-        where
-          least : (k x c f : ℕ) → 0 < c → 0 < f → k * k * c * f ≤ x → x ≤ c * (10000 * squares_limit) → k ≤ 721110255092
-          least k x c f lc lf a b = root_of k (le_of_mul-le-mul_left {k = c} (omega (arith, a, b, mul-le-mul_left (k * k * c) lf)) lc)
-            where
-              root_of : (k : ℕ) → k * k ≤ 10000 * squares_limit → k ≤ 721110255092
-              root_of k m = choose (dec_lt 721110255092 k)
-                where
-                  choose : Dec (721110255092 < k) → k ≤ 721110255092
-                  choose (yes o) = let o' : 721110255093 ≤ k = omega arith in omega (arith, mul-le-mul o' o')
-                  choose (no o) = omega arith
-
-          go : (f : ℕ) → spread_hundredths (qOf h d y) (vbeta h d) f ≤ 721110255092
-          go zero = omega arith
-          go (suc f) = least (spread_hundredths (qOf h d y) (vbeta h d) (suc f)) (10000 * qOf h d y) (vbeta h d) (suc f) (vbeta-some h d s e) (omega arith)
-              (spread-largest (qOf h d y) (vbeta h d) (suc f) (vbeta-some h d s e) (omega arith) q_in_range).0 (omega (arith, q_by_vbeta))
-
--- published hundredths
-pub published-most : (h : Head) (d : List ℕ) (y : List ℤ) (w : ℕ) (M : ℤ) → Job h d y w M → (i : ℕ) → nat_abs (published h d y w M i) ≤ 100 * numerator_limit + 1
-published-most h d y w M j i = omega (
-  arith,
-  published-size h d y w M j i,
-  numerator-most h d j.measures.design y j.measures.readings j.measures.even w M i j.restraint.sum-most,
-)

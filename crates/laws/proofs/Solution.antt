@@ -187,42 +187,6 @@ module _ (b v β : ℕ) (X : ℕ → ℕ → ℤ) (m : Matrix b v β X) (y : ℕ
       ∙ ring₂ (λ t e. t ⊗ e ⊗ (t ⊗ e) ≐ t ⊗ t ⊗ (e ⊗ e)) (pos (members v w)) (apart v X y (pos (v * β)) (totals b X y) k) refl)
       ∙ sum-scale b (sq (pos (members v w))) _ ∙ ap (λ z. sq (pos (members v w)) *ℤ z) squares_Q
 
-  -- any other values that keep the restraint have larger squares
-  values-least : 0 < v → 0 < β → (w : ℕ) (M : ℤ) → 0 < members v w → (e : ℕ) (a : ℕ → ℤ) → restrained v w a ≡ M *ℤ pos e →
-      (i : ℕ) → i < v → (a i *ℤ pos (bottom v β w) ≡ top v β w M (totals b X y) i *ℤ pos e → ⊥) →
-      (sq (pos e) *ℤ squares b v X y (pos (bottom v β w)) (top v β w M (totals b X y))) <ℤ (squares b v X y (pos e) a *ℤ sq (pos (bottom v β w)))
-  unfolding restrained
-  values-least v>0 β>0 w M t>0 e a keeps i l differs =
-      lt-+ (positive (sum_sq_nonneg b (fit v X u)) (λ z. differs (same (zero_there z))))
-      (sym (pythagoras b v β X m v>0 y D N _ (values_solve w M) (pos e) a))
-    where
-      D : ℤ
-      D = pos (bottom v β w)
-
-      N : ℕ → ℤ
-      N = top v β w M (totals b X y)
-
-      u : ℕ → ℤ
-      u j = D *ℤ a j -ℤ pos e *ℤ N j
-
-      -- both keep the restraint
-      balance : restrained v w u ≡ pos 0
-      balance =
-          restrained_linear v w D (pos e) a N ∙ ap₂ (λ x z. D *ℤ x -ℤ pos e *ℤ z) keeps (top_kept v β w M (totals b X y))
-          ∙ ring₃ (λ e m d. e ⊗ (m ⊗ d) ⊝ d ⊗ (m ⊗ e) ≐ # 0) D M (pos e) refl
-
-      alike : sum b (λ k. sq (fit v X u k)) ≡ pos 0 → restrained v w (λ j. u i) ≡ restrained v w u
-      alike z = sum_cong v _ _ (λ j o. ap (λ x. pos (member w j) *ℤ x) (equal-values b v β X m β>0 u z i j l o))
-
-      zero_there : sum b (λ k. sq (fit v X u k)) ≡ pos 0 → u i ≡ pos 0
-      zero_there z = ⊎_elim (λ o. absurd (not-zero (members v w) t>0 o)) (λ o. o) (*ℤ-is-zero (pos (members v w)) (u i)
-          (sym (restrained_const v w (u i)) ∙ alike z ∙ balance))
-
-      same : u i ≡ pos 0 → a i *ℤ D ≡ N i *ℤ pos e
-      same o =
-          ring₄ (λ a d n e. a ⊗ d ≐ (d ⊗ a ⊝ e ⊗ n) ⊕ n ⊗ e) (a i) D (N i) (pos e) refl ∙ ap (λ z. z +ℤ N i *ℤ pos e) o
-          ∙ ring₁ (λ n. # 0 ⊕ n ≐ n) (N i *ℤ pos e) refl
-
   -- hundredths, each at most one away, have squares that are at most βv²/10,000 larger, and none smaller
   module _ (v>0 : 0 < v) (w : ℕ) (M : ℤ) (x : ℕ → ℤ) where
     -- the denominator and the numerators of the values
@@ -293,6 +257,7 @@ module _ (b v β : ℕ) (X : ℕ → ℕ → ℤ) (m : Matrix b v β X) (y : ℕ
     pub least_Q : (e : ℕ) (a : ℕ → ℤ) → restrained v w a ≡ M *ℤ pos e →
         (i : ℕ) → i < v → (a i *ℤ pos (bottom v β w) ≡ top v β w M (totals b X y) i *ℤ pos e → ⊥) →
         (sq (pos e) *ℤ Q_of) <ℤ (pos (v * β) *ℤ squares b v X y (pos e) a)
+    unfolding restrained
     least_Q e a keeps i l differs =
         cancel-< (members v w * members v w * (v * β)) factor (sq (pos e) *ℤ Q_of) (pos (v * β) *ℤ F)
         (subst₂ ◌<ℤ◌
@@ -303,6 +268,41 @@ module _ (b v β : ℕ) (X : ℕ → ℕ → ℤ) (m : Matrix b v β X) (y : ℕ
       where
         F : ℤ
         F = squares b v X y (pos e) a
+
+        -- any other values that keep the restraint have larger squares
+        values-least : 0 < v → 0 < β → (w : ℕ) (M : ℤ) → 0 < members v w → (e : ℕ) (a : ℕ → ℤ) → restrained v w a ≡ M *ℤ pos e →
+            (i : ℕ) → i < v → (a i *ℤ pos (bottom v β w) ≡ top v β w M (totals b X y) i *ℤ pos e → ⊥) →
+            (sq (pos e) *ℤ squares b v X y (pos (bottom v β w)) (top v β w M (totals b X y))) <ℤ (squares b v X y (pos e) a *ℤ sq (pos (bottom v β w)))
+        values-least v>0 β>0 w M t>0 e a keeps i l differs =
+            lt-+ (positive (sum_sq_nonneg b (fit v X u)) (λ z. differs (same (zero_there z))))
+            (sym (pythagoras b v β X m v>0 y D N _ (values_solve w M) (pos e) a))
+          where
+            D : ℤ
+            D = pos (bottom v β w)
+
+            N : ℕ → ℤ
+            N = top v β w M (totals b X y)
+
+            u : ℕ → ℤ
+            u j = D *ℤ a j -ℤ pos e *ℤ N j
+
+            -- both keep the restraint
+            balance : restrained v w u ≡ pos 0
+            balance =
+                restrained_linear v w D (pos e) a N ∙ ap₂ (λ x z. D *ℤ x -ℤ pos e *ℤ z) keeps (top_kept v β w M (totals b X y))
+                ∙ ring₃ (λ e m d. e ⊗ (m ⊗ d) ⊝ d ⊗ (m ⊗ e) ≐ # 0) D M (pos e) refl
+
+            alike : sum b (λ k. sq (fit v X u k)) ≡ pos 0 → restrained v w (λ j. u i) ≡ restrained v w u
+            alike z = sum_cong v _ _ (λ j o. ap (λ x. pos (member w j) *ℤ x) (equal-values b v β X m β>0 u z i j l o))
+
+            zero_there : sum b (λ k. sq (fit v X u k)) ≡ pos 0 → u i ≡ pos 0
+            zero_there z = ⊎_elim (λ o. absurd (not-zero (members v w) t>0 o)) (λ o. o) (*ℤ-is-zero (pos (members v w)) (u i)
+                (sym (restrained_const v w (u i)) ∙ alike z ∙ balance))
+
+            same : u i ≡ pos 0 → a i *ℤ D ≡ N i *ℤ pos e
+            same o =
+                ring₄ (λ a d n e. a ⊗ d ≐ (d ⊗ a ⊝ e ⊗ n) ⊕ n ⊗ e) (a i) D (N i) (pos e) refl ∙ ap (λ z. z +ℤ N i *ℤ pos e) o
+                ∙ ring₁ (λ n. # 0 ⊕ n ≐ n) (N i *ℤ pos e) refl
 
     -- any hundredths: 10,000 Q is no more than vβ times their squares
     pub hundredths-least : (x : ℕ → ℤ) → (pos 10000 *ℤ Q_of) ≤ℤ (pos (v * β) *ℤ squares b v X y (pos 100) x)

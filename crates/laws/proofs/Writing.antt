@@ -1,67 +1,31 @@
 -- A job and its file, both ways.
---     reads-back                the file of an accepted job reads as that job
---     file-length, file-bytes   it has 32 + 2pm + 4b entries, which are bytes
+--     file-long, file-bytes     the file of an accepted job has 32 + 2pm + 4b entries, which are bytes; that it reads as that job is in WritingBack
 --     writes_again              a file of bytes that is accepted, written again from what it holds, is the same
 --     the_file, one-file        a file of bytes that reads as a job is that job's file, so two that read as one job are the same
 -- A file is taken apart at the starts of its fields. Assumes nothing.
 use mathlib.Core.Path.{◌≡◌, refl, sym, ap, ap₂, ◌∙◌}
 use mathlib.Core.Bool.{Bool, true, false, cond}
-use mathlib.Core.List.{List, [], ◌∷◌, ◌++◌, append_assoc, append-nil}
-use Prim.Native.Nat.{ℕ, ◌+◌, ◌*◌, ◌^◌, ◌≤◌, ◌<◌}
-use native.Mathlib.Nat.{add-zero, pow-le-pow_right}
+use mathlib.Core.List.{List, [], ◌∷◌, ◌++◌, append_assoc}
+use Prim.Native.Nat.{ℕ, ◌+◌, ◌*◌, ◌≤◌, ◌<◌}
+use native.Mathlib.Nat.{add-zero}
 use native.Mathlib.Numerals.{add-one}
 use native.Mathlib.Omega.{arith}
 use borrow.Author.Tests.{eqb-true, eq-eqb, leb-true, le-leb, ltb-true}
-use lib.Dec.{eqb, leb, ltb, lit<}
-use lib.IntN.{ℤ, nat_abs}
+use lib.Dec.{eqb, leb, ltb}
+use lib.IntN.{ℤ}
 use lib.ListN.{length, get_or, take, drop, length-append, length-drop}
-use lib.Seq.{take_all, take_at, take-add, drop_at, drop-cons, drop-drop, get_or-drop}
+use lib.Seq.{take_all, take-add, drop-cons, drop-drop, get_or-drop}
 use Rattle.records.specs.declared.Head.{Head}
-use Rattle.records.specs.declared.Verdict.{Verdict}
-use Rattle.meaning.specs.Design.{objects, with_fixed, blocks, sized, list_length}
-use Rattle.meaning.specs.Refusals.{accepted, test, ◌⨾◌, sizes}
+use Rattle.meaning.specs.Design.{with_fixed, blocks, list_length}
+use Rattle.meaning.specs.Refusals.{accepted, test, sizes}
 use Rattle.meaning.specs.Calls.{job_verdict}
-use Rattle.meaning.specs.File.{
-  big,
-  twos,
-  numbers_at,
-  body_length,
-  field_verdict,
-  head_of,
-  second_at,
-  third_at,
-  fourth_at,
-  end_at,
-  readings_at,
-  blocks_of,
-  set_of,
-  sum_of,
-  readings_of,
-  fields,
-  read_verdict,
-}
+use Rattle.meaning.specs.File.{big, body_length, field_verdict, head_of, second_at, third_at, fourth_at, end_at, readings_at, blocks_of, set_of, sum_of, readings_of, fields, read_verdict}
 use Rattle.meaning.specs.Writing.{Bytes, bytes_of, wrapped, sizes_body, restraint_body, readings_body, field_bytes, file_of, file_length, ReadsAs}
-use Rattle.laws.specs.Fits.{Fits}
-use Rattle.laws.proofs.Chains.{opened, held, test_yes, accepts, sized_yes, listed-most, Job, job}
+use Rattle.laws.proofs.Chains.{opened, held, test_yes, accepts, Job, job}
 use Rattle.laws.proofs.Clean.{in_range_lem}
-use Rattle.laws.proofs.Files.{file-job, job-file}
-use Rattle.laws.proofs.Bytes.{
-  bytes-none,
-  bytes-more,
-  bytes-append,
-  bytes-long,
-  bytes_are,
-  big-below,
-  read_bytes_at,
-  write_bytes,
-  wrapped-below,
-  twos-wrapped,
-  wrapped-twos,
-  read-numbers,
-  write-numbers,
-  numbers-bytes,
-  numbers_are,
-}
+use Rattle.laws.proofs.Files.{file-job}
+use Rattle.laws.proofs.Bytes.{bytes-none, bytes-more, bytes-append, bytes-long, bytes_are, big-below, write_bytes, wrapped-twos, write-numbers, numbers-bytes, numbers_are}
+use Rattle.laws.proofs.BytesBack.{read_bytes_at}
 
 -- ---- a field
 
@@ -84,7 +48,7 @@ fielded s at tag len e =
     }
 
 -- where it stands, with what was before it dropped, its tests hold
-field_there : (s : List ℕ) (at tag len : ℕ) (body rest : List ℕ) → drop at s ≡ tag ∷ bytes_of 2 len ++ body ++ rest → length body ≡ len → len < 65536 →
+pub field_there : (s : List ℕ) (at tag len : ℕ) (body rest : List ℕ) → drop at s ≡ tag ∷ bytes_of 2 len ++ body ++ rest → length body ≡ len → len < 65536 →
     field_verdict s at tag len ≡ accepted
 unfolding field_verdict
 field_there s at tag len body rest e l small =
@@ -110,7 +74,7 @@ field-again s b at tag len f = ap₂ (λ (a c : List ℕ). a ++ c) (start-again 
     ∙ sym (take-add 3 len (drop at s))
 
 -- it has three bytes more than its body
-field-long : (h : Head) (tag : ℕ) (body : List ℕ) → length (field_bytes h tag body) ≡ 3 + length body
+pub field-long : (h : Head) (tag : ℕ) (body : List ℕ) → length (field_bytes h tag body) ≡ 3 + length body
 field-long h tag body = rw length-append (omega (arith, bytes-long 2 (body_length h tag)))
 
 -- it is of bytes where its body is
@@ -119,47 +83,24 @@ field-bytes h tag body t b =
     let len = body_length h tag in
     bytes-append (tag ∷ bytes_of 2 len) body (bytes-more tag (bytes_of 2 len) t (bytes_are 2 len)) b
 
--- ---- what was written is read back
-
--- what follows a part
-drop_on : (s : List ℕ) (at next : ℕ) (t rest : List ℕ) → drop at s ≡ t ++ rest → at + length t ≡ next → drop next s ≡ rest
-drop_on s at next t rest e n = ap (λ (i : ℕ). drop i s) (sym n) ∙ sym (drop-drop (length t) at s) ∙ ap (drop (length t)) e ∙ drop_at t rest (length t) refl
+-- ---- what is written
 
 -- the four fields of a job
-abbrev first : Head → List ℕ
+abbrev pub first : Head → List ℕ
 first h = field_bytes h 1 (sizes_body h)
 
-abbrev second : Head → List ℕ → List ℕ
+abbrev pub second : Head → List ℕ → List ℕ
 second h d = field_bytes h 2 d
 
-abbrev third : Head → ℕ → ℤ → List ℕ
+abbrev pub third : Head → ℕ → ℤ → List ℕ
 third h w M = field_bytes h 3 (restraint_body w M)
 
-abbrev fourth : Head → List ℤ → List ℕ
+abbrev pub fourth : Head → List ℤ → List ℕ
 fourth h y = field_bytes h 4 (readings_body y)
 
 -- the restraint has 16 bytes
 pub restraint-long : (w : ℕ) (M : ℤ) → length (restraint_body w M) ≡ 16
 restraint-long w M = rw length-append (omega (arith, bytes-long 8 w, bytes-long 8 (wrapped 64 M)))
-
--- where the third and the fourth start, and the byte after the fourth, by the head
-abbrev third_start : Head → ℕ
-third_start h = second_at + 3 + list_length h
-
-abbrev fourth-at : Head → ℕ
-fourth-at h = third_start h + 3 + 16
-
-abbrev end-at : Head → ℕ
-end-at h = fourth-at h + 3 + 4 * blocks h
-
--- the fields of a job stand in s at their places
-record Laid (s : List ℕ) (h : Head) (d : List ℕ) (y : List ℤ) (w : ℕ) (M : ℤ) : Type 0 where
-  head : head_of s ≡ h
-  from_first : s ≡ first h ++ (second h d ++ (third h w M ++ fourth h y))
-  from_second : drop 7 s ≡ second h d ++ (third h w M ++ fourth h y)
-  from_third : drop (third_start h) s ≡ third h w M ++ fourth h y
-  from_fourth : drop (fourth-at h) s ≡ fourth h y
-  long : length s ≡ file_length h
 
 module _ (h : Head) (d : List ℕ) (y : List ℤ) (w : ℕ) (M : ℤ) where
   -- how long the file is
@@ -169,120 +110,9 @@ module _ (h : Head) (d : List ℕ) (y : List ℤ) (w : ℕ) (M : ℤ) where
       let two : (tag : ℕ) → length (bytes_of 2 (body_length h tag)) ≡ 2 = λ tag. bytes-long 2 (body_length h tag) in
       simp length-append (omega (arith, two 1, two 2, two 3, two 4, bytes-long 8 w, bytes-long 8 (wrapped 64 M), numbers-bytes y))
 
-  -- the fields stand in it
-  laid : length d ≡ list_length h → length y ≡ blocks h → Laid (file_of h d y w M) h d y w M
-  unfolding file_of bytes_of
-  laid l r =
-      let s = file_of h d y w M in
-      let two : drop 7 s ≡ second h d ++ (third h w M ++ fourth h y) = append_assoc (second h d) (third h w M) (fourth h y) in
-      let three = drop_on s 7 (third_start h) (second h d) (third h w M ++ fourth h y) two (omega (arith, field-long h 2 d)) in
-      let four = drop_on s (third_start h) (fourth-at h) (third h w M) (fourth h y) three
-      (omega (arith, field-long h 3 (restraint_body w M), restraint-long w M)) in
-      record {
-        head = refl;
-        from_first = append_assoc (first h ++ second h d) (third h w M) (fourth h y) ∙ append_assoc (first h) (second h d) (third h w M ++ fourth h y);
-        from_second = two;
-        from_third = three;
-        from_fourth = four;
-        long = file-long l r;
-      }
-
--- where they stand, reading gives the job back
-module _ (s : List ℕ) (h : Head) (d : List ℕ) (y : List ℤ) (w : ℕ) (M : ℤ) (l : Laid s h d y w M) (j : Job h d y w M) where
-  f : Fits h
-  f = j.measures.design.sizes
-
-  -- the tests of the fields, by the head
-  fields-under : Head → Verdict
-  fields-under x =
-      field_verdict s 0 1 4 ⨾ sizes x ⨾ field_verdict s second_at 2 (list_length x) ⨾ field_verdict s (third_start x) 3 16
-      ⨾ field_verdict s (fourth-at x) 4 (4 * blocks x)
-      ⨾ test (eqb (end-at x) (length s)) 9 (end-at x)
-
-  -- they all hold
-  fields_there : fields s ≡ accepted
-  unfolding fields fields-under
-  fields_there =
-      let list : list_length h < 65536 = omega (arith, listed-most h f) in
-      let readings : length (readings_body y) ≡ 4 * blocks h = omega (arith, numbers-bytes y, j.measures.readings.readings-long) in
-      let end : end-at h ≡ length s = omega (arith, l.long) in
-      ap fields-under l.head
-      ∙ accepts (accepts (accepts (accepts (accepts
-      (field_there s 0 1 4 (sizes_body h) (second h d ++ (third h w M ++ fourth h y)) l.from_first refl (omega arith))
-      (test_yes (sized h) 4 0 (sym (sized_yes h f))))
-      (field_there s second_at 2 (list_length h) d (third h w M ++ fourth h y) l.from_second j.measures.design.long list))
-      (field_there s (third_start h) 3 16 (restraint_body w M) (fourth h y) l.from_third (restraint-long w M) (omega arith)))
-      (field_there s (fourth-at h) 4 (4 * blocks h) (readings_body y) [] (l.from_fourth ∙ sym (append-nil (fourth h y))) readings
-      (omega (arith, f.blocks-most))))
-      (test_yes (eqb (end-at h) (length s)) 9 (end-at h) (eq-eqb _ _ end))
-
-  -- the restraint, with what follows it
-  third-body : drop (third_start h + 3) s ≡ bytes_of 8 w ++ (bytes_of 8 (wrapped 64 M) ++ fourth h y)
-  third-body =
-      drop_on s (third_start h) (third_start h + 3) (3 ∷ bytes_of 2 16) (restraint_body w M ++ fourth h y)
-      (l.from_third ∙ append_assoc (3 ∷ bytes_of 2 16) (restraint_body w M) (fourth h y)) (omega (arith, bytes-long 2 16))
-      ∙ append_assoc (bytes_of 8 w) (bytes_of 8 (wrapped 64 M)) (fourth h y)
-
-  -- the blocks
-  blocks-back : blocks_of s ≡ d
-  blocks-back =
-      let after = drop_on s second_at 10 (2 ∷ bytes_of 2 (list_length h)) (d ++ (third h w M ++ fourth h y))
-      (l.from_second ∙ append_assoc (2 ∷ bytes_of 2 (list_length h)) d (third h w M ++ fourth h y)) (omega (arith, bytes-long 2 (list_length h))) in
-      ap (λ (x : Head). take (list_length x) (drop 10 s)) l.head ∙ ap (take (list_length h)) after
-      ∙ take_at d (third h w M ++ fourth h y) (list_length h) j.measures.design.long
-
-  -- the restraint set, below 2 to the power 50
-  set_back : set_of s ≡ w
-  set_back =
-      let small : w < 256 ^ 8 = omega (arith, j.restraint.set-inside, pow-le-pow_right {n = 2} (lit< tt) {i = objects h} {j = 50} f.objects-most) in
-      ap (λ (x : Head). big s (third_start x + 3) 8) l.head ∙ read_bytes_at s (third_start h + 3) 8 w (bytes_of 8 (wrapped 64 M) ++ fourth h y) third-body small
-
-  -- its accepted sum
-  sum_back : sum_of s ≡ M
-  sum_back =
-      let small : nat_abs M < 2 ^ 63 = omega (arith, j.restraint.sum-most) in
-      let after = drop_on s (third_start h + 3) (third_start h + 11) (bytes_of 8 w) (bytes_of 8 (wrapped 64 M) ++ fourth h y) third-body
-      (omega (arith, bytes-long 8 w)) in
-      ap (λ (x : Head). twos 64 (big s (third_start x + 11) 8)) l.head
-      ∙ ap (twos 64) (read_bytes_at s (third_start h + 11) 8 (wrapped 64 M) (fourth h y) after (wrapped-below 64 refl M small))
-      ∙ twos-wrapped 64 refl M small
-
-  -- the readings
-  readings-back : readings_of s ≡ y
-  readings-back =
-      let long = j.measures.readings.readings-long in
-      let after = drop_on s (fourth-at h) (fourth-at h + 3) (4 ∷ bytes_of 2 (4 * blocks h)) (readings_body y) l.from_fourth
-      (omega (arith, bytes-long 2 (4 * blocks h))) in
-      ap (λ (x : Head). numbers_at s (fourth-at x + 3) (blocks x)) l.head
-      ∙ ap (numbers_at s (fourth-at h + 3)) (sym long)
-      ∙ read-numbers y s (fourth-at h + 3) [] (after ∙ sym (append-nil (readings_body y))) (λ k m. j.measures.readings.readings-most k (omega (arith, long)))
-
 module _ (h : Head) (d : List ℕ) (y : List ℤ) (w : ℕ) (M : ℤ) (e : job_verdict h d y w M ≡ accepted) where
   sound_job : Job h d y w M
   sound_job = job h d y w M e
-
-  -- the file of an accepted job reads as that job
-  pub reads-back : ReadsAs (file_of h d y w M) h d y w M
-  reads-back =
-      let s = file_of h d y w M in
-      let j = sound_job in
-      let l = laid h d y w M j.measures.design.long j.measures.readings.readings-long in
-      let b = blocks-back s h d y w M l j in
-      let r = readings-back s h d y w M l j in
-      let t = set_back s h d y w M l j in
-      let u = sum_back s h d y w M l j in
-      record {
-        accepts = job-file s (fields_there s h d y w M l j) ((λ i. job_verdict (l.head i) (b i) (r i) (t i) (u i)) ∙ e);
-        head = l.head;
-        blocks = b;
-        readings = r;
-        set = t;
-        sum = u;
-      }
-
-  -- its length
-  pub file-length : length (file_of h d y w M) ≡ file_length h
-  file-length = file-long h d y w M sound_job.measures.design.long sound_job.measures.readings.readings-long
 
   -- the sizes are bytes
   sizes-bytes : Bytes (sizes_body h)

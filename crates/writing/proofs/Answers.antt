@@ -15,7 +15,7 @@ use Rattle.meaning.specs.Refusals.{accepted, refused, room}
 use Rattle.meaning.specs.Calls.{job_verdict}
 use Rattle.meaning.specs.Writing.{file_of, file_length, write_verdict, written_answer, written_after}
 use Rattle.laws.proofs.Chains.{opened, held}
-use Rattle.laws.proofs.Writing.{file-length}
+use Rattle.laws.proofs.WritingBack.{file-length}
 use Rattle.writing.proofs.writable.Slices.{Laid, laid}
 
 module _ (h : Head) (d : List ℕ) (y : List ℤ) (w : ℕ) (M : ℤ) (out : List ℕ) where

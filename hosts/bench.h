@@ -56,11 +56,11 @@
  *
  * Calls may be made from several threads at once, each with its own buffers to write: the library keeps nothing between calls.
  * Of the stack, which no proof speaks of, each takes at most this, in KB of 1,000 bytes, with what is passed to it:
- *    83 KB | bench_judge, bench_grouped
+ *   122 KB | bench_judge, bench_grouped
+ *    82 KB | bench_company, bench_opposition
  *    72 KB | bench_uncertainty_of
- *    62 KB | bench_company, bench_opposition
  *    46 KB | bench_listing, bench_listing_second, bench_certificate, bench_certificate_second, bench_check_file, bench_check_second, bench_pool
- *    40 KB | bench_values, bench_value_of, bench_published, bench_deviation_of, bench_q, bench_spread, bench_check_parts
+ *    41 KB | bench_values, bench_value_of, bench_published, bench_deviation_of, bench_q, bench_spread, bench_check_parts
  *    33 KB | bench_practice_file
  *    29 KB | bench_deviations, bench_practice
  *    26 KB | bench_total, bench_sum_of_squared_totals
@@ -68,7 +68,7 @@
  *     8 KB | bench_judge_by_differences, bench_group_base, bench_refusal, bench_analyse, bench_write, bench_write_second
  *     5 KB | bench_develop, bench_develop_initial
  *     1 KB | bench_pairs_refusal, bench_sum_of_squares, bench_field_at
- * A thread that makes any of them needs about 91 KB with what the thread itself takes. That is measured with the archive for x86-64 on
+ * A thread that makes any of them needs about 127 KB with what the thread itself takes. That is measured with the archive for x86-64 on
  * every stored job that is accepted, with room and with none (tests/stack/run); it is the same on all of them.
  */
 #ifndef BENCH_H

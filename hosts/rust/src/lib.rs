@@ -13,8 +13,8 @@
 //! # Ok::<(), mass_bench::Refusal>(())
 //! ```
 //!
-//! Calls may be made from several threads. Of the stack a call takes at most 83 KB, [`judge`] and [`grouped`] the most, so a thread that makes calls needs about
-//! 91 KB (hosts/bench.h has the figure of each, tests/stack measures them); that is measured, not proved. What the functions here add is little, but for [`company`] and
+//! Calls may be made from several threads. Of the stack a call takes at most 122 KB, [`judge`] and [`grouped`] the most, so a thread that makes calls needs about
+//! 127 KB (hosts/bench.h has the figure of each, tests/stack measures them); that is measured, not proved. What the functions here add is little, but for [`company`] and
 //! [`opposition`], which hand back a table of 20 KB. A thread of the standard library has 2 MB unless it is told otherwise.
 
 // `unsafe` stands in one module: `forbid` could not be lifted for it.

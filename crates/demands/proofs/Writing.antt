@@ -83,7 +83,7 @@ module _ (s : List ℕ) where
   unfolding write_verdict
   checks_alike len e l =
       let enough : ten len (file_length h) ≡ accepted =
-          test_yes (leb (file_length h) len) 10 0 (le-leb (file_length h) len (omega (arith, (filed s e).ends, l))) in
+      test_yes (leb (file_length h) len) 10 0 (le-leb (file_length h) len (omega (arith, (filed s e).ends, l))) in
       read-moved s e ∙ ap (placed s) (sym (ap (λ (v : Verdict). verdict_of (job_in s) ⨾ v) enough ∙ accepted-last (verdict_of (job_in s))))
 
   -- a job that was read is written as it was, where there is room

@@ -11,17 +11,12 @@ use Rattle.arithmetic.proofs.quotient.is_exact.Tie as tie
 size : (c : tie.After-size-magnitude) → c.size-magnitude.result ≡ nat_abs c.args.numerator
 size c = rw (to_z-of_z c.ranges.numerator) at c.size-magnitude.ensures
 
-returns : tie.Need-returns-then-magnitude-ge9007199254740992
-returns c = sym (top-large _ _ (omega (arith, size c.before)))
-
-returns-2 : tie.Need-returns-then-denominator-eq0
-returns-2 c = sym (bottom-zero c.args.numerator _ (omega arith))
-
-returns-3 : tie.Need-returns-then-denominator-ge9007199254740992
-returns-3 c = sym (bottom-large c.args.numerator _ (omega arith))
-
-returns-4 : tie.Need-returns
-returns-4 c = sym (is-exact _ _ (record { top = omega (arith, size c.before.before.before); above = omega arith; bottom = omega arith }))
-
 pub is_exact_spec : {M : Type 1} → statement M
-is_exact_spec = tie.close (tie.spec (λ c κs. search rules) returns returns-2 returns-3 returns-4)
+is_exact_spec =
+    tie.close
+    (tie.spec
+    (λ c κs. search rules)
+    (λ c. sym (top-large _ _ (omega (arith, size c.before))))
+    (λ c. sym (bottom-zero c.args.numerator _ (omega arith)))
+    (λ c. sym (bottom-large c.args.numerator _ (omega arith)))
+    (λ c. sym (is-exact _ _ (record { top = omega (arith, size c.before.before.before); above = omega arith; bottom = omega arith }))))

@@ -7,18 +7,6 @@ use Rattle.arithmetic.proofs.Spreads.{is-ranged, not-ranged}
 use Rattle.arithmetic.proofs.spread.is_ranged.Statement.{statement}
 use Rattle.arithmetic.proofs.spread.is_ranged.Tie as tie
 
-returns : tie.Need-returns-then-q-ge524288
-returns c = sym (not-ranged _ _ _ (λ r. omega arith))
-
-returns-2 : tie.Need-returns-then-vbeta-lt1
-returns-2 c = sym (not-ranged _ _ _ (λ r. omega arith))
-
-returns-3 : tie.Need-returns-then-vbeta-gt2600
-returns-3 c = sym (not-ranged _ _ _ (λ r. omega arith))
-
-returns-4 : tie.Need-returns-then-freedom-gt83200
-returns-4 c = sym (not-ranged _ _ _ (λ r. omega arith))
-
 returns-5 : tie.Need-returns
 returns-5 c =
     let q = c.args.q in
@@ -30,4 +18,11 @@ returns-5 c =
     }))
 
 pub is_ranged_spec : {M : Type 1} → statement M
-is_ranged_spec = tie.close (tie.spec returns returns-2 returns-3 returns-4 returns-5)
+is_ranged_spec =
+    tie.close
+    (tie.spec
+    (λ c. sym (not-ranged _ _ _ (λ r. omega arith)))
+    (λ c. sym (not-ranged _ _ _ (λ r. omega arith)))
+    (λ c. sym (not-ranged _ _ _ (λ r. omega arith)))
+    (λ c. sym (not-ranged _ _ _ (λ r. omega arith)))
+    returns-5)

@@ -6,17 +6,15 @@ use Rattle.arithmetic.proofs.Uncertainties.{not-stated, stated-ranged}
 use Rattle.arithmetic.proofs.uncertainty.is_stated.Statement.{statement}
 use Rattle.arithmetic.proofs.uncertainty.is_stated.Tie as tie
 
-returns : tie.Need-returns-then-denominator-lt1
-returns c = sym (not-stated _ _ _ _ _ (λ r. omega arith))
-
-returns-2 : tie.Need-returns-then-denominator-gt130000
-returns-2 c = sym (not-stated _ _ _ _ _ (λ r. omega arith))
-
-returns-3 : tie.Need-returns-then-factor-gt51
-returns-3 c = sym (not-stated _ _ _ _ _ (λ r. omega arith))
-
 returns-4 : tie.Need-returns
 returns-4 c = c.is_ranged.ensures ∙ sym (stated-ranged _ _ _ _ _ (omega arith) (omega arith) (omega arith))
 
 pub is_stated_spec : {M : Type 1} → statement M
-is_stated_spec = tie.close (tie.spec returns returns-2 returns-3 (λ c κs. search rules) returns-4)
+is_stated_spec =
+    tie.close
+    (tie.spec
+    (λ c. sym (not-stated _ _ _ _ _ (λ r. omega arith)))
+    (λ c. sym (not-stated _ _ _ _ _ (λ r. omega arith)))
+    (λ c. sym (not-stated _ _ _ _ _ (λ r. omega arith)))
+    (λ c κs. search rules)
+    returns-4)

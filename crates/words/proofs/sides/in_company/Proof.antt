@@ -12,13 +12,15 @@ returns c = rw (bit_past 64 c.before.args.word c.before.args.i c.before.ranges.w
 returns-2 : tie.Need-returns-then-j-gt63
 returns-2 c = rw (bit_past 64 c.before.before.args.word c.before.before.args.j c.before.before.ranges.word.fits (omega arith)) (omega arith)
 
-returns-3 : tie.Need-returns-then-word-pair
-returns-3 c = pair_full c.before.before.before.args.word c.before.before.before.args.i c.before.before.before.args.j
-    (omega arith) (omega arith) (search rules)
-
-returns-4 : tie.Need-returns-else-word-pair
-returns-4 c = pair-part c.before.before.before.args.word c.before.before.before.args.i c.before.before.before.args.j
-    (omega arith) (omega arith) (search rules)
-
 pub in_company_spec : {M : Type 1} → statement M
-in_company_spec = tie.close (tie.spec returns returns-2 (λ c. search rules) (λ c. search rules) returns-3 returns-4)
+in_company_spec =
+    tie.close
+    (tie.spec
+    returns
+    returns-2
+    (λ c. search rules)
+    (λ c. search rules)
+    (λ c. pair_full c.before.before.before.args.word c.before.before.before.args.i c.before.before.before.args.j
+        (omega arith) (omega arith) (search rules))
+    (λ c. pair-part c.before.before.before.args.word c.before.before.before.args.i c.before.before.before.args.j
+        (omega arith) (omega arith) (search rules)))

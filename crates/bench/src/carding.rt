@@ -3,34 +3,31 @@
 use crate::files::{in_front, read_argument};
 use crate::refusals::put_words;
 use crate::said::{put_line, say};
+use crate::system::{ARGUMENT_ROOM, argument, write_error};
 use crate::verbs::{Verb, say_misused};
 use cards::{column_of, job_of_card, line_of};
-use libc::STDERR_FILENO;
 use printing::{put_byte, put_number, put_text};
 use records::Verdict;
 
 // Reads the card, a byte more than the largest has.
-pub(crate) fn make_job(count: usize) {
+pub(crate) fn make_job(rt: &HostRuntime, count: usize) {
     if count != 3 {
-        say_misused(Verb::Job);
+        say_misused(rt, Verb::Job);
         return;
     }
     let mut card = [0u8; 65537];
-    let of_card = read_argument(2, &mut card);
+    let of_card = read_argument(rt, 2, &mut card);
     if !of_card.opened {
         return;
     }
     let end = in_front(&card, of_card.length);
-    write_job(&card[..end]);
+    write_job(rt, &card[..end]);
 }
 
 // Writes its file. 16,384 bytes are room for every file.
-fn write_job(card: &[u8]) {
+fn write_job(rt: &HostRuntime, card: &[u8]) {
     if 65536 < card.len() {
-        io::write_all(
-            STDERR_FILENO,
-            b"bench: the card has more than 65,536 bytes\n",
-        );
+        write_error(rt, b"bench: the card has more than 65,536 bytes\n");
         return;
     }
     let mut out = [0u8; 16384];
@@ -38,56 +35,56 @@ fn write_job(card: &[u8]) {
     let verdict = read.verdict;
     match verdict {
         Verdict::Accepted => {
-            put_line(&out, read.length);
+            put_line(rt, &out, read.length);
         }
         Verdict::Refused(number, place) => {
-            say_unmade(card, number, place, read.wants);
+            say_unmade(rt, card, number, place, read.wants);
         }
     }
 }
 
 // Why there is no file: 19 is the card's own.
-fn say_unmade(card: &[u8], number: u8, place: usize, wants: usize) {
+fn say_unmade(rt: &HostRuntime, card: &[u8], number: u8, place: usize, wants: usize) {
     if number == 19 {
-        say_unread(card, place, wants);
+        say_unread(rt, card, place, wants);
     } else {
-        say_refused_card(card, number, place);
+        say_refused_card(rt, card, number, place);
     }
 }
 
 // A card that cannot be read: where, and what was expected there. 4,608 bytes are room for every name and all the words.
-fn say_unread(card: &[u8], place: usize, wants: usize) {
+fn say_unread(rt: &HostRuntime, card: &[u8], place: usize, wants: usize) {
     let mut text = [0u8; 4608];
     let word_end = put_text(&mut text, 0, b"bench: ");
-    let name_end = put_card_name(&mut text, word_end);
+    let name_end = put_card_name(rt, &mut text, word_end);
     let colon_end = put_byte(&mut text, name_end, 58);
     let place_end = put_place(&mut text, colon_end, card, place);
     let expected_end = put_text(&mut text, place_end, b": expected ");
     let wanted_end = put_wanted(&mut text, expected_end, wants);
     let ends_end = put_end(&mut text, wanted_end, card, place);
     let end = put_byte(&mut text, ends_end, 10);
-    say(&text, end);
+    say(rt, &text, end);
 }
 
 // A job that is refused: its number, where in the card, and the words.
-fn say_refused_card(card: &[u8], number: u8, place: usize) {
+fn say_refused_card(rt: &HostRuntime, card: &[u8], number: u8, place: usize) {
     let mut text = [0u8; 4608];
     let word_end = put_text(&mut text, 0, b"refused");
     let number_end = put_number(&mut text, word_end, number as u64);
     let at_end = put_text(&mut text, number_end, b" at");
     let place_end = put_place(&mut text, at_end, card, place);
     let of_end = put_text(&mut text, place_end, b" of ");
-    let name_end = put_card_name(&mut text, of_end);
+    let name_end = put_card_name(rt, &mut text, of_end);
     let colon_end = put_text(&mut text, name_end, b": ");
     let words_end = put_words(&mut text, colon_end, number);
     let end = put_byte(&mut text, words_end, 10);
-    say(&text, end);
+    say(rt, &text, end);
 }
 
 // The card's name, as it was given.
-fn put_card_name(text: &mut [u8], at: usize) -> usize {
-    let mut name = io::buffer();
-    let length = os::arg(2, &mut name);
+fn put_card_name(rt: &HostRuntime, text: &mut [u8], at: usize) -> usize {
+    let mut name = [0u8; ARGUMENT_ROOM];
+    let length = argument(rt, 2, &mut name);
     put_text(text, at, &name[..length])
 }
 

@@ -1,7 +1,7 @@
 // Files that arguments name, read into lent room, and which edition a job is of.
-ghost use Rattle.io.specs.Counts.{IsPrefixLen};
+ghost use Rattle.std.specs.Prelude.{◌≡◌, ◌≤◌, length, take};
 
-use libc::{STDERR_FILENO, STDIN_FILENO};
+use crate::system::{ARGUMENT_ROOM, argument, open, read_full, say_unopened, write_error};
 
 // Whether a file could be opened, and how many bytes of it were read.
 #[derive(Clone, Copy)]
@@ -11,30 +11,32 @@ pub struct Taken {
 }
 
 // Reads the file that argument `i` names, as far as there is room, or standard input for `-`. What cannot be opened is said on standard error.
-pub(crate) fn read_argument(i: usize, room: &mut [u8]) -> Taken {
-    let mut name = io::buffer();
-    let length = os::arg(i, &mut name);
+pub(crate) fn read_argument(rt: &HostRuntime, i: usize, room: &mut [u8]) -> Taken {
+    let mut name = [0u8; ARGUMENT_ROOM];
+    let length = argument(rt, i, &mut name);
     if sheets::same(&name[..length], b"-") {
-        let n = io::read_full(STDIN_FILENO, room);
+        let n = read_full(&mut rt.stdin(), room);
         return Taken {
             opened: true,
             length: n,
         };
     }
-    let fd = os::open_read(&name[..length]);
-    if fd < 0 {
-        io::write_all(STDERR_FILENO, b"bench: ");
-        os::fail(&name[..length]);
-        return Taken {
-            opened: false,
-            length: 0,
-        };
-    }
-    let n = io::read_full(fd, room);
-    libc::close(fd);
-    Taken {
-        opened: true,
-        length: n,
+    match open(rt, &name[..length]) {
+        Ok(mut file) => {
+            let n = read_full(&mut file, room);
+            Taken {
+                opened: true,
+                length: n,
+            }
+        }
+        Err(error) => {
+            write_error(rt, b"bench: ");
+            say_unopened(rt, &name[..length], error);
+            Taken {
+                opened: false,
+                length: 0,
+            }
+        }
     }
 }
 
@@ -48,7 +50,8 @@ pub(crate) fn is_second(file: &[u8]) -> bool {
 
 // As many as were read, and no more than there are.
 pub(crate) fn in_front(bytes: &[u8], n: usize) -> usize
-    ensures { IsPrefixLen result bytes.now }
+    ensures upper_bound { result ≤ length bytes.now }
+    ensures value { result ≡ length (take result bytes.now) }
 {
     if n < bytes.len() { n } else { bytes.len() }
 }

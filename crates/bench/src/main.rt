@@ -7,39 +7,39 @@ mod carding;
 mod check;
 mod figures;
 mod files;
-mod numbers;
+mod numerals;
 mod pairs;
 mod pooling;
 mod practising;
 mod refusals;
 mod said;
+mod system;
 mod texts;
 mod verbs;
 
 ghost use Rattle.std.specs.Prelude.{◌≡◌, ◌≤◌, length, take};
-ghost use Rattle.io.specs.Counts.{IsPrefixLen};
 ghost use Rattle.meaning.specs.Text.{text_of};
 
+use crate::system::{argument_count, read_full, write_error, write_output};
 use crate::verbs::{Verb, say_no_verb, verb_argument};
-use libc::{STDERR_FILENO, STDIN_FILENO, STDOUT_FILENO};
 
-fn main() {
-    let count = os::arg_count();
+fn main(rt: HostRuntime) {
+    let count = argument_count(&rt);
     if count < 2 {
-        list();
+        list(&rt);
     } else {
-        run_verb(count);
+        run_verb(&rt, count);
     }
 }
 
 // The listing of what stands on standard input.
-fn list() {
+fn list(rt: &HostRuntime) {
     let mut input = [0u8; 8192];
-    let n = io::read_full(STDIN_FILENO, &mut input);
+    let n = read_full(&mut rt.stdin(), &mut input);
     let mut text = [0u8; 65536];
     let length = put_text(&input[..n], &mut text);
-    if !io::write_all(STDOUT_FILENO, &text[..length]) {
-        io::write_all(STDERR_FILENO, b"bench: the listing could not be written\n");
+    if !write_output(rt, &text[..length]) {
+        write_error(rt, b"bench: the listing could not be written\n");
     }
 }
 
@@ -47,25 +47,26 @@ fn list() {
 fn put_text(bytes: &[u8], text: &mut [u8]) -> usize
     requires { 65536 ≤ length text.old }
     ensures text_after { take result text.new ≡ text_of bytes.now }
-    ensures prefix_len { IsPrefixLen result text.new }
+    ensures upper_bound { result ≤ length text.new }
+    ensures value { result ≡ length (take result text.new) }
 {
     let listed = listing::listing(bytes, text);
     listed.length
 }
 
 // What the first of the arguments names.
-fn run_verb(count: usize) {
-    let verb = verb_argument(1);
+fn run_verb(rt: &HostRuntime, count: usize) {
+    let verb = verb_argument(rt, 1);
     match verb {
-        Verb::List => texts::print_text(verb, count),
-        Verb::Certificate => texts::print_text(verb, count),
-        Verb::Job => carding::make_job(count),
-        Verb::Card => texts::print_text(verb, count),
-        Verb::Check => check::check(count),
-        Verb::Practice => practising::practise(count),
-        Verb::Pool => pooling::pool(count),
-        Verb::Help => verbs::help(count),
-        Verb::Version => verbs::version(count),
-        Verb::None => say_no_verb(1),
+        Verb::List => texts::print_text(rt, verb, count),
+        Verb::Certificate => texts::print_text(rt, verb, count),
+        Verb::Job => carding::make_job(rt, count),
+        Verb::Card => texts::print_text(rt, verb, count),
+        Verb::Check => check::check(rt, count),
+        Verb::Practice => practising::practise(rt, count),
+        Verb::Pool => pooling::pool(rt, count),
+        Verb::Help => verbs::help(rt, count),
+        Verb::Version => verbs::version(rt, count),
+        Verb::None => say_no_verb(rt, 1),
     }
 }

@@ -4,7 +4,7 @@ ghost use Rattle.std.specs.Prelude.{◌≡◌, ◌≤◌, length, take};
 
 use crate::figures::read_verdict;
 use crate::files::{fields_start, in_front, looked_at, read_argument};
-use crate::numbers::number_argument;
+use crate::numerals::number_argument;
 use crate::refusals::refuse;
 use crate::said::put_line;
 use crate::verbs::{Verb, say_misused};
@@ -16,32 +16,33 @@ use records::{Head, Verdict};
 const VALUES_AT: usize = 5;
 
 // Reads the job and the numbers, of the true values one more than a job has objects: a longer list is of the wrong length all the same.
-pub(crate) fn practise(count: usize) {
+pub(crate) fn practise(rt: &HostRuntime, count: usize) {
     if count < VALUES_AT {
-        say_misused(Verb::Practice);
+        say_misused(rt, Verb::Practice);
         return;
     }
     let mut file = [0u8; 16385];
-    let of_file = read_argument(2, &mut file);
+    let of_file = read_argument(rt, 2, &mut file);
     if !of_file.opened {
         return;
     }
-    let start = number_argument(3);
+    let start = number_argument(rt, 3);
     if !start.read {
         return;
     }
-    let width = number_argument(4);
+    let width = number_argument(rt, 4);
     if !width.read {
         return;
     }
     let mut truths = [0i32; 51];
-    if !read_truths(count, &mut truths) {
+    if !read_truths(rt, count, &mut truths) {
         return;
     }
     let looked_at = looked_at(&file, of_file.length);
     let file_end = in_front(&file, looked_at);
     let truths_end = truths_in_front(&truths, count);
     practise_on(
+        rt,
         &file[..file_end],
         unsigned(start.number),
         unsigned(width.number),
@@ -50,10 +51,10 @@ pub(crate) fn practise(count: usize) {
 }
 
 // The true values, as far as there is room; what is no number is said, and ends it.
-fn read_truths(count: usize, truths: &mut [i32]) -> bool {
+fn read_truths(rt: &HostRuntime, count: usize, truths: &mut [i32]) -> bool {
     let mut i = VALUES_AT;
     while i < count {
-        if !read_truth(i, truths) {
+        if !read_truth(rt, i, truths) {
             return false;
         }
         i += 1;
@@ -62,8 +63,8 @@ fn read_truths(count: usize, truths: &mut [i32]) -> bool {
 }
 
 // One of them.
-fn read_truth(i: usize, truths: &mut [i32]) -> bool {
-    let truth = number_argument(i);
+fn read_truth(rt: &HostRuntime, i: usize, truths: &mut [i32]) -> bool {
+    let truth = number_argument(rt, i);
     if !truth.read {
         return false;
     }
@@ -125,25 +126,26 @@ fn width_of(start: u64, width: u64) -> usize {
 }
 
 // The job's own refusals come first.
-fn practise_on(file: &[u8], start: u64, width: u64, truths: &[i32]) {
+fn practise_on(rt: &HostRuntime, file: &[u8], start: u64, width: u64, truths: &[i32]) {
     let verdict = read_verdict(file);
     match verdict {
         Verdict::Accepted => {
             let from = in_front(file, fields_start(file));
-            write_practice(&file[from..], start, width, truths);
+            write_practice(rt, &file[from..], start, width, truths);
         }
         Verdict::Refused(number, place) => {
-            refuse(file, number, place);
+            refuse(rt, file, number, place);
         }
     }
 }
 
 // Writes the practice job over the design and the restraint set that stand in four fields.
-fn write_practice(fields: &[u8], start: u64, width: u64, truths: &[i32]) {
+fn write_practice(rt: &HostRuntime, fields: &[u8], start: u64, width: u64, truths: &[i32]) {
     let held = held(fields);
     let head = held.head;
     let end = in_front(fields, held.restraint_at);
     write_over(
+        rt,
         head,
         &fields[..end],
         held.blocks_at,
@@ -156,6 +158,7 @@ fn write_practice(fields: &[u8], start: u64, width: u64, truths: &[i32]) {
 
 // The same, the blocks standing from a place on to the end. 8,192 bytes are room for every file of the first edition.
 fn write_over(
+    rt: &HostRuntime,
     head: Head,
     fields: &[u8],
     blocks_at: usize,
@@ -178,10 +181,10 @@ fn write_over(
     let verdict = written.verdict;
     match verdict {
         Verdict::Accepted => {
-            put_line(&out, written.length);
+            put_line(rt, &out, written.length);
         }
         Verdict::Refused(number, place) => {
-            refuse(b"", number, place);
+            refuse(rt, b"", number, place);
         }
     }
 }

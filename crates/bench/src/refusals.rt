@@ -5,23 +5,23 @@ use crate::said::{put_line, say};
 use printing::{put_byte, put_number, put_text};
 
 // A refusal of a job: its line on standard output, and the sentence on standard error.
-pub(crate) fn refuse(file: &[u8], number: u8, place: usize) {
-    say_refused(file, number, place);
+pub(crate) fn refuse(rt: &HostRuntime, file: &[u8], number: u8, place: usize) {
+    say_refused(rt, file, number, place);
     let mut text = [0u8; 64];
     let place_end = put_refused(&mut text, number, place);
     let end = put_byte(&mut text, place_end, 10);
-    put_line(&text, end);
+    put_line(rt, &text, end);
 }
 
 // The sentence: number and place, the words, and of an unbalanced design two pairs.
-pub(crate) fn say_refused(file: &[u8], number: u8, place: usize) {
+pub(crate) fn say_refused(rt: &HostRuntime, file: &[u8], number: u8, place: usize) {
     let mut text = [0u8; 512];
     let place_end = put_refused(&mut text, number, place);
     let colon_end = put_text(&mut text, place_end, b": ");
     let words_end = put_words(&mut text, colon_end, number);
     let pairs_end = put_any_pairs(&mut text, words_end, file, number);
     let end = put_byte(&mut text, pairs_end, 10);
-    say(&text, end);
+    say(rt, &text, end);
 }
 
 // Number and place.

@@ -8,27 +8,27 @@ use crate::verbs::{Verb, say_misused};
 use records::Verdict;
 
 // Reads the file and prints the text of a verb.
-pub(crate) fn print_text(verb: Verb, count: usize) {
+pub(crate) fn print_text(rt: &HostRuntime, verb: Verb, count: usize) {
     if count != 3 {
-        say_misused(verb);
+        say_misused(rt, verb);
         return;
     }
     let mut file = [0u8; 16385];
-    let of_file = read_argument(2, &mut file);
+    let of_file = read_argument(rt, 2, &mut file);
     if !of_file.opened {
         return;
     }
     let looked_at = looked_at(&file, of_file.length);
     let end = in_front(&file, looked_at);
-    print_text_of(verb, &file[..end]);
+    print_text_of(rt, verb, &file[..end]);
 }
 
 // The text, and the sentence beside it. 64 KiB are room for every text.
-fn print_text_of(verb: Verb, file: &[u8]) {
+fn print_text_of(rt: &HostRuntime, verb: Verb, file: &[u8]) {
     let mut text = [0u8; 65536];
     let length = put_text_of(verb, file, &mut text);
-    put_line(&text, length);
-    say_verdict(file);
+    put_line(rt, &text, length);
+    say_verdict(rt, file);
 }
 
 // The text of a verb, and its length.
@@ -71,12 +71,12 @@ fn put_card(file: &[u8], text: &mut [u8]) -> usize {
 }
 
 // The sentence, where the job is refused.
-fn say_verdict(file: &[u8]) {
+fn say_verdict(rt: &HostRuntime, file: &[u8]) {
     let verdict = read_verdict(file);
     match verdict {
         Verdict::Accepted => {}
         Verdict::Refused(number, place) => {
-            say_refused(file, number, place);
+            say_refused(rt, file, number, place);
         }
     }
 }

@@ -1,6 +1,6 @@
 // The verbs: their names, what each takes and what it does, each in one place; and the verbs `help` and `version`, which print it.
 use crate::said::{put_line, say};
-use libc::STDERR_FILENO;
+use crate::system::{ARGUMENT_ROOM, argument, write_error};
 use printing::{put_byte, put_text};
 
 // What a first word names.
@@ -51,9 +51,9 @@ pub(crate) fn verb_named(name: &[u8]) -> Verb {
 }
 
 // The verb that argument `i` names.
-pub(crate) fn verb_argument(i: usize) -> Verb {
-    let mut name = io::buffer();
-    let length = os::arg(i, &mut name);
+pub(crate) fn verb_argument(rt: &HostRuntime, i: usize) -> Verb {
+    let mut name = [0u8; ARGUMENT_ROOM];
+    let length = argument(rt, i, &mut name);
     verb_named(&name[..length])
 }
 
@@ -190,20 +190,20 @@ fn put_text_verbs(text: &mut [u8], at: usize) -> usize {
 }
 
 // The verb `help`: the list, or one verb.
-pub(crate) fn help(count: usize) {
+pub(crate) fn help(rt: &HostRuntime, count: usize) {
     if count == 2 {
-        print_verbs();
+        print_verbs(rt);
         return;
     }
     if count == 3 {
-        help_on(2);
+        help_on(rt, 2);
         return;
     }
-    say_misused(Verb::Help);
+    say_misused(rt, Verb::Help);
 }
 
 // The list on standard output.
-fn print_verbs() {
+fn print_verbs(rt: &HostRuntime) {
     let mut text = [0u8; 4096];
     let head_end = put_text(
         &mut text,
@@ -216,44 +216,44 @@ fn print_verbs() {
         verbs_end,
         b"A file - is standard input. It ends with 1 for a refusal or a difference, and with 2 where it cannot be done.\n",
     );
-    put_line(&text, end);
+    put_line(rt, &text, end);
 }
 
 // What the verb that argument `i` names takes and does.
-fn help_on(i: usize) {
-    let verb = verb_argument(i);
+fn help_on(rt: &HostRuntime, i: usize) {
+    let verb = verb_argument(rt, i);
     match verb {
         Verb::None => {
-            say_no_verb(i);
+            say_no_verb(rt, i);
         }
         _ => {
-            print_verb(verb);
+            print_verb(rt, verb);
         }
     }
 }
 
 // One verb on standard output.
-fn print_verb(verb: Verb) {
+fn print_verb(rt: &HostRuntime, verb: Verb) {
     let mut text = [0u8; 1024];
     let takes_end = put_takes(&mut text, 0, verb);
     let between_end = put_byte(&mut text, takes_end, 10);
     let does_end = put_does(&mut text, between_end, verb);
     let line_end = put_byte(&mut text, does_end, 10);
     let end = put_more(&mut text, line_end, verb);
-    put_line(&text, end);
+    put_line(rt, &text, end);
 }
 
 // The verb `version`: that of the crate and of the module that stand beside the program.
-pub(crate) fn version(count: usize) {
+pub(crate) fn version(rt: &HostRuntime, count: usize) {
     if count != 2 {
-        say_misused(Verb::Version);
+        say_misused(rt, Verb::Version);
         return;
     }
-    put_line(b"bench 0.1.0\n", 12);
+    put_line(rt, b"bench 0.1.0\n", 12);
 }
 
 // Too few words or too many, and what the verb takes.
-pub(crate) fn say_misused(verb: Verb) {
+pub(crate) fn say_misused(rt: &HostRuntime, verb: Verb) {
     let mut text = [0u8; 256];
     let word_end = put_text(
         &mut text,
@@ -262,17 +262,17 @@ pub(crate) fn say_misused(verb: Verb) {
     );
     let takes_end = put_takes(&mut text, word_end, verb);
     let end = put_byte(&mut text, takes_end, 10);
-    say(&text, end);
+    say(rt, &text, end);
 }
 
 // Argument `i` names no verb, and what there is.
-pub(crate) fn say_no_verb(i: usize) {
-    let mut name = io::buffer();
-    let length = os::arg(i, &mut name);
-    io::write_all(STDERR_FILENO, b"bench: there is no verb ");
-    io::write_all(STDERR_FILENO, &name[..length]);
-    io::write_all(STDERR_FILENO, b"; there are:\n");
+pub(crate) fn say_no_verb(rt: &HostRuntime, i: usize) {
+    let mut name = [0u8; ARGUMENT_ROOM];
+    let length = argument(rt, i, &mut name);
+    write_error(rt, b"bench: there is no verb ");
+    write_error(rt, &name[..length]);
+    write_error(rt, b"; there are:\n");
     let mut text = [0u8; 4096];
     let end = put_verbs(&mut text, 0);
-    say(&text, end);
+    say(rt, &text, end);
 }

@@ -9,6 +9,7 @@ use arithmetic::{at_most, divide, size};
 use records::Wide;
 
 // n in decimal digits, the highest first.
+#[tactic(auto, using(crate::proofs::decimals::Digits::put_one_digit, crate::proofs::decimals::Digits::put_more_digits))]
 pub fn put_digits(out: &mut [u8], at: usize, n: u64) -> usize
     ensures { Wrote out.old at (digits 20 n) out.new result }
 {

@@ -66,6 +66,7 @@ pub fn put_escaped(out: &mut [u8], at: usize, name: &[u8]) -> usize
 }
 
 // How many bytes are left of a name without the spaces that fill it up.
+#[tactic(auto, using(crate::proofs::names::Shown::trimmed_on, crate::proofs::names::Shown::trimmed_up_to))]
 fn trimmed_length(name: &[u8]) -> usize
     ensures { (result ≤ length name.now) × (take result name.now ≡ trimmed name.now) }
 {

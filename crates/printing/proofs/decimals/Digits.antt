@@ -1,5 +1,5 @@
 -- The digits of a number: one digit, or those of its tenth and one more. Assumes nothing.
-use mathlib.Core.Path.{◌≡◌, refl, ap}
+use mathlib.Core.Path.{◌≡◌, refl, ap, ◌∙◌}
 use mathlib.Core.Bool.{Bool, true, false, cond}
 use mathlib.Core.List.{List, [], ◌∷◌, ◌++◌}
 use Prim.Native.Nat.{ℕ, zero, suc, ◌+◌, ◌/◌, ◌%◌, ◌^◌, ◌≤◌, ◌<◌}
@@ -7,6 +7,8 @@ use native.Mathlib.Nat.{pow-suc, div-lt_iff_lt-mul}
 use native.Mathlib.Omega.{arith}
 use lib.Dec.{ltb, lit<}
 use borrow.Author.Tests.{ltb-false, lt-ltb, le-ltb}
+use Rattle.algebra.specs.Buffers.{write}
+use Rattle.algebra.proofs.Writing.{write-append}
 use Rattle.meaning.specs.Text.{digits}
 
 -- the same number under two lengths, where the digits of its tenth are the same
@@ -36,3 +38,16 @@ digits_split s n h = rw (le-ltb n 10 h)
 -- from 10 on, the digits of the tenth and then the last one
 pub digits_more : (s n : ℕ) → 10 ≤ n → n / 10 < 10 ^ suc s → digits (suc (suc s)) n ≡ digits (suc (suc s)) (n / 10) ++ ((48 + n % 10) ∷ [])
 digits_more s n h l = rw (digits_split (suc s) n h, one_more_place s (n / 10) l)
+
+-- ---- a number of 64 bits, put from a place on
+
+module _ (o : List ℕ) (at n : ℕ) where
+  -- below 10 its digit
+  pub put_one_digit : n < 10 → write o at (digits 20 n) ≡ write o at ((48 + n) ∷ [])
+  put_one_digit h = ap (write o at) (digits-one 19 n h)
+
+  -- from 10 on the digits of its tenth, and then its last one
+  pub put_more_digits : 10 ≤ n → n < 2 ^ 64 →
+      write o at (digits 20 n) ≡ write (write o at (digits 20 (n / 10))).0 (write o at (digits 20 (n / 10))).1 ((48 + n % 10) ∷ [])
+  put_more_digits h l =
+      ap (write o at) (digits_more 18 n h (omega arith)) ∙ write-append o at (digits 20 (n / 10)) ((48 + n % 10) ∷ [])

@@ -22,9 +22,11 @@ loop-again : tie.Need-loop-i-preserved invariant-loop decreases-loop
 loop-again c =
     let put = c.before.before in
     let turn = put.before.before.before.before in
-    let start = turn.before.before.before in
-    (omega arith, more-escaped start.args.name.now turn.loop-i.i (omega arith) turn.loop-i.invariant.1
-    (named put.put_escaped_byte-place.ensures (search rules)))
+    let start = turn.before.before.before in (
+      omega arith,
+      more-escaped start.args.name.now turn.loop-i.i (omega arith) turn.loop-i.invariant.1
+          (named put.put_escaped_byte-place.ensures (search rules)),
+    )
 
 returns : tie.Need-returns invariant-loop decreases-loop
 returns c =

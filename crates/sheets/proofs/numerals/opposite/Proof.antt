@@ -7,16 +7,15 @@ use Rattle.sheets.proofs.numerals.Digits.{opposite_fits, opposite-read}
 use Rattle.sheets.proofs.numerals.opposite.Statement.{statement}
 use Rattle.sheets.proofs.numerals.opposite.Tie as tie
 
-returns : tie.Need-returns-then-n-lt1
-returns c =
-    let none : c.args.n ≡ 0 = omega arith in
-    sym (ap (λ n. neg_ℤ (pos n)) none)
-
 sub_result : tie.Need-overflow_sub-result
 sub_result c = opposite_fits c.args.n (omega arith) c.requires
 
-returns-2 : tie.Need-returns
-returns-2 c = opposite-read c.args.n (omega arith) c.requires
+returns : tie.Need-returns
+returns c = opposite-read c.args.n (omega arith) c.requires
 
 pub opposite_spec : {M : Type 1} → statement M
-opposite_spec = tie.close (tie.spec returns (λ c. search rules) sub_result returns-2)
+opposite_spec =
+    tie.close
+    (tie.spec
+    (λ c. let none : c.args.n ≡ 0 = omega arith in sym (ap (λ n. neg_ℤ (pos n)) none))
+    (λ c. search rules) sub_result returns)

@@ -6,7 +6,8 @@
 //! `job CARD`: cards of jobs right and wrong, with comments and spacing of all kinds, some with a word that is changed, put in or left out, some cut short.
 //! `check JOB SHEET`: jobs of both editions, some refused, with sheets as text: a listing's own lines, in other order and among others, and wrong in one place.
 //! `practice JOB START WIDTH VALUE..`: jobs of both editions, some refused, with numbers in their ranges, out of them, written in more digits than they need, and words that are none.
-//! `pool FILE..`: files of one v and beta, some damaged or of another kind, one to more than 64, with names of any bytes.
+//! `pool FILE..`: files of one v and beta, some damaged or of another kind, one to more than 64, with names of any bytes, of which those that are not UTF-8 cannot be opened; and with names of any
+//! characters.
 
 use crate::card;
 use crate::certificate;
@@ -52,8 +53,16 @@ struct Trial {
     expected: Expected,
 }
 
-const VERBS: [(&str, fn(u64, u64, &mut Seed) -> Trial); 7] =
-    [("list", list), ("certificate", certificate), ("job", make_job), ("card", card), ("check", check), ("practice", practise), ("pool", pool)];
+const VERBS: [(&str, fn(u64, u64, &mut Seed) -> Trial); 8] = [
+    ("list", list),
+    ("certificate", certificate),
+    ("job", make_job),
+    ("card", card),
+    ("check", check),
+    ("practice", practise),
+    ("pool", pool),
+    ("pool", pool_by_characters),
+];
 
 /// A file by a plain name.
 fn plain(name: &str, bytes: Vec<u8>) -> (Vec<u8>, Vec<u8>) {
@@ -354,14 +363,30 @@ fn practise(seed: u64, index: u64, source: &mut Seed) -> Trial {
     Trial { about, files: vec![plain("job", file)], words, expected }
 }
 
-/// Files with names of any bytes that a name may have.
+/// Files with names of any bytes that a name may have. Where one is not UTF-8, the first such file cannot be opened, and nothing is pooled.
 fn pool(_: u64, _: u64, source: &mut Seed) -> Trial {
+    let mut trial = pooled_files(source, |name| name);
+    let strange = trial.files.iter().find(|(name, _)| std::str::from_utf8(name).is_err());
+    if let (Some((name, _)), true) = (strange, trial.about != "too many") {
+        trial.expected = cannot(format!("bench: {}: the name is not UTF-8\n", String::from_utf8_lossy(name)));
+        trial.about = "a name that is not UTF-8";
+    }
+    trial
+}
+
+/// The same files with the names as characters: each byte stands for the character of its number.
+fn pool_by_characters(_: u64, _: u64, source: &mut Seed) -> Trial {
+    pooled_files(source, |name| name.into_iter().map(char::from).collect::<String>().into_bytes())
+}
+
+fn pooled_files(source: &mut Seed, named: fn(Vec<u8>) -> Vec<u8>) -> Trial {
     let mut files: Vec<(Vec<u8>, Vec<u8>)> = pooled::files(source).into_iter().map(|bytes| (vec![], bytes)).collect();
     for (number, (name, bytes)) in files.iter_mut().enumerate() {
         // the number keeps names apart, and a name from being - alone
         *name = number.to_string().into_bytes();
         let odd = [b' ', b'#', b'\\', b'\n', b'\r', b'\t', 0x7f, 0x80, 0xff, b'!', b'~', b'-', b'x', 1];
         (0..source.below(4)).for_each(|_| name.push(source.pick(&odd)));
+        *name = named(std::mem::take(name));
         if source.once_in(40) {
             *bytes = second::with_names(bytes, &[]);
         }

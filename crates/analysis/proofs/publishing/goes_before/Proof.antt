@@ -34,15 +34,11 @@ returns c = let a = c.args in let l : a.own < a.part = omega arith in larger a.p
 returns-2 : tie.Need-returns-then-part-own
 returns-2 c = let a = c.args in let l : a.part < a.own = omega arith in smaller a.part a.i a.own a.object l
 
-returns-3 : tie.Need-returns-then-i-object
-returns-3 c =
-    let a = c.args in
-    as_large a.part a.i a.own a.object (omega arith) (omega arith) true (lt-ltb a.i a.object (omega arith))
-
 returns-4 : tie.Need-returns
 returns-4 c =
     let a = c.args in
     as_large a.part a.i a.own a.object (omega arith) (omega arith) false (le-ltb a.i a.object (omega arith))
 
 pub goes_before_spec : {M : Type 1} → statement M
-goes_before_spec = tie.close (tie.spec returns returns-2 returns-3 returns-4)
+goes_before_spec = tie.close (tie.spec returns returns-2 (λ c. let a = c.args in
+    as_large a.part a.i a.own a.object (omega arith) (omega arith) true (lt-ltb a.i a.object (omega arith))) returns-4)

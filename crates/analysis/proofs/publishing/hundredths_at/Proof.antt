@@ -40,7 +40,7 @@ module _ (c : tie.After-hundredths_below-below) where
   is_below = rw (to_z-of_z start.ranges.numerator) at c.hundredths_below-below.ensures
 
   is_member : member start.args.set start.args.object ≡ 1
-  is_member = sym c.holds.ensures ∙ search c.if-holds-eq1.true
+  is_member = omega (arith, c.holds.ensures)
 
   abbrev below : Num
   below = called c.hundredths_below-below.result (2 ^ 60) is_below (omega (arith, below-small start.args.numerator start.args.denominator)) (lit< tt)
@@ -48,27 +48,13 @@ module _ (c : tie.After-hundredths_below-below) where
   abbrev more : Num
   more = plus below (number (pos 1) 1 (omega arith) (lit< tt)) (lit< tt)
 
-returns : tie.Need-returns-then-own-shared
-returns c =
-    let s = start c.before in
-    (more c.before).reads
-    ∙ gains s.args.numerator s.args.denominator (member s.args.set s.args.object) s.args.own s.args.shared
-    (is_member c.before) (omega arith)
-
-returns-2 : tie.Need-returns-then-holds-eq1
-returns-2 c =
-    let s = start c.before in
-    (below c.before).reads
-    ∙ stays s.args.numerator s.args.denominator (member s.args.set s.args.object) s.args.own s.args.shared
-    (is_member c.before) (omega arith)
-
 returns-3 : tie.Need-returns
 returns-3 c =
     let s = c.before.before.before in
     read_back c.hundredths.result c.hundredths.type_inv
     ∙ (rw (to_z-of_z s.ranges.numerator) at c.hundredths.ensures)
     ∙ rounds s.args.numerator s.args.denominator (member s.args.set s.args.object) s.args.own s.args.shared
-    (λ e. c.if-holds-eq1.false (search (c.holds.ensures ∙ e)))
+    (λ e. omega (arith, e, c.holds.ensures))
 
 pub hundredths_at_spec : {M : Type 1} → statement M
 hundredths_at_spec =
@@ -77,7 +63,13 @@ hundredths_at_spec =
     (λ c κs. search rules)
     (λ c κs. search rules)
     (λ c. plus_fits (below c.before) (number (pos 1) 1 (omega arith) (lit< tt)) (lit< tt))
-    returns
-    returns-2
+    (λ c. let s = start c.before in
+    (more c.before).reads
+    ∙ gains s.args.numerator s.args.denominator (member s.args.set s.args.object) s.args.own s.args.shared
+    (is_member c.before) (omega arith))
+    (λ c. let s = start c.before in
+    (below c.before).reads
+    ∙ stays s.args.numerator s.args.denominator (member s.args.set s.args.object) s.args.own s.args.shared
+    (is_member c.before) (omega arith))
     (λ c κs. search rules)
     returns-3)

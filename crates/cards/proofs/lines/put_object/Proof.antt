@@ -7,24 +7,16 @@ use Rattle.meaning.specs.Text.{ascii}
 use Rattle.cards.proofs.lines.put_object.Statement.{statement}
 use Rattle.cards.proofs.lines.put_object.Tie as tie
 
-returns : tie.Need-returns-then-object-eq255
-unfolding ascii
-returns c =
-    let object = c.args.object in
-    named c.put_text.ensures (rw (eq-eqb object 255 (omega arith)) (search rules))
-
-returns-2 : tie.Need-returns-else-object-eq255
-returns-2 c =
-    let object = c.args.object in
-    named c.put_number.ensures (rw (ne_eqb object 255 (λ e. omega arith)) (search rules))
-
 pub put_object_spec : {M : Type 1} → statement M
+unfolding ascii
 put_object_spec =
     tie.close
     (tie.spec
     (λ c κs. tt)
     (λ c κs. tt)
     (λ c. search rules)
-    returns
+    (λ c. let object = c.args.object in
+    named c.put_text.ensures (rw (eq-eqb object 255 (omega arith)) (search rules)))
     (λ c. search rules)
-    returns-2)
+    (λ c. let object = c.args.object in
+    named c.put_number.ensures (rw (ne_eqb object 255 (λ e. omega arith)) (search rules))))

@@ -18,12 +18,6 @@ use Rattle.cards.proofs.making.Answers.{too_long, bad-word, too_early, too_many,
 use Rattle.cards.proofs.making.job_of_card.Statement.{statement}
 use Rattle.cards.proofs.making.job_of_card.Tie as tie
 
-returns : tie.Need-returns-then-card-gt-CARD_LIMIT
-returns c =
-    let a = c.args in
-    let t = too_long a.card.now a.out.now (omega (arith, c.if-card-gt-CARD_LIMIT.true)) in
-    (c.unread.ensures ∙ t.0, t.1)
-
 -- what was read
 module _ (c : tie.After-seen-1) where
   abbrev walk : tie.After-walked-walk
@@ -42,7 +36,7 @@ module _ (c : tie.After-seen-1) where
   is = walk.walked-walk.ensures.0
 
   short : length card ≤ 65536
-  short = omega (arith, walk.if-card-gt-CARD_LIMIT.false)
+  short = omega arith
 
 returns-2 : tie.Need-returns-then-seen
 returns-2 c =
@@ -115,9 +109,11 @@ job_of_card_spec =
     tie.close
     (tie.spec
     (λ c κs. tt)
-    returns
+    (λ c. let a = c.args in
+    let t = too_long a.card.now a.out.now (omega arith) in
+    (c.unread.ensures ∙ t.0, t.1))
     (λ c. search rules)
-    (λ c κs. omega (arith, c.if-card-gt-CARD_LIMIT.false))
+    (λ c κs. omega arith)
     (λ c κs. tt)
     returns-2
     (λ c κs. tt)

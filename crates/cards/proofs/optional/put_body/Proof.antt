@@ -8,24 +8,16 @@ use Rattle.cards.proofs.optional.Parts.{body-none, body-some}
 use Rattle.cards.proofs.optional.put_body.Statement.{statement}
 use Rattle.cards.proofs.optional.put_body.Tie as tie
 
-returns : tie.Need-returns-then-body-eq0
-unfolding ascii
-returns c =
-    let body = c.args.body.now in
-    named c.put_text.ensures (rw (sym (body-none body (omega arith))) (search rules))
-
-returns-2 : tie.Need-returns-else-body-eq0
-returns-2 c =
-    let body = c.args.body.now in
-    named c.put_hex_texts.ensures (rw (sym (body-some body (λ e. omega arith))) (search rules))
-
 pub put_body_spec : {M : Type 1} → statement M
+unfolding ascii
 put_body_spec =
     tie.close
     (tie.spec
     (λ c κs. tt)
     (λ c κs. tt)
     (λ c. search rules)
-    returns
+    (λ c. let body = c.args.body.now in
+    named c.put_text.ensures (rw (sym (body-none body (omega arith))) (search rules)))
     (λ c. search rules)
-    returns-2)
+    (λ c. let body = c.args.body.now in
+    named c.put_hex_texts.ensures (rw (sym (body-some body (λ e. omega arith))) (search rules))))

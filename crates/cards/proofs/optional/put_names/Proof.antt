@@ -7,11 +7,6 @@ use Rattle.meaning.specs.Text.{ascii}
 use Rattle.cards.proofs.optional.put_names.Statement.{statement}
 use Rattle.cards.proofs.optional.put_names.Tie as tie
 
-returns : tie.Need-returns-then-start-eq0
-returns c =
-    let a = c.args in
-    named (nothing _ _) (rw (eq-eqb a.start 0 (omega arith)) (search rules))
-
 returns-2 : tie.Need-returns
 unfolding ascii
 returns-2 c =
@@ -22,7 +17,8 @@ pub put_names_spec : {M : Type 1} → statement M
 put_names_spec =
     tie.close
     (tie.spec
-    returns
+    (λ c. let a = c.args in
+    named (nothing _ _) (rw (eq-eqb a.start 0 (omega arith)) (search rules)))
     (λ c κs. tt)
     (λ c κs. search rules)
     (λ c κs. tt)

@@ -16,9 +16,6 @@ returns c = sized_no _ (λ f. omega arith)
 returns-2 : tie.Need-returns-then-n-gt50
 returns-2 c = sized_no _ (λ f. omega arith)
 
-returns-3 : tie.Need-returns-then-flag-gt3
-returns-3 c = sized_no _ (λ f. omega arith)
-
 returns-4 : tie.Need-returns-then-not-has_addition
 returns-4 c =
     let none = sym c.has_addition.ensures ∙ not-true _ c.if-not-has_addition.true-raw in
@@ -72,7 +69,7 @@ sized_spec =
     (tie.spec
     returns
     returns-2
-    returns-3
+    (λ c. sized_no _ (λ f. omega arith))
     (λ c κs. search rules)
     returns-4
     (λ c κs. search rules)

@@ -16,11 +16,6 @@ returns-2 c =
     let a = c.args in
     rw (no_start a.bytes.now a.place a.tag a.length (omega arith)) (search rules)
 
-returns-3 : tie.Need-returns-then-found-tag
-returns-3 c =
-    let a = c.args in
-    rw (wrong_tag a.bytes.now a.place a.tag a.length (omega arith) (λ e. omega arith)) (search rules)
-
 returns-4 : tie.Need-returns-then-told-length
 returns-4 c =
     let a = c.args in
@@ -38,4 +33,5 @@ returns-6 c =
 
 pub field_at_spec : {M : Type 1} → statement M
 field_at_spec = tie.close (tie.spec returns (λ c. search rules) returns-2 (λ c. search rules) (λ c. search rules) (λ c κs. search rules)
-    (λ c. search rules) returns-3 returns-4 (λ c. search rules) (λ c. search rules) (λ c. search rules) returns-5 returns-6)
+    (λ c. search rules) (λ c. let a = c.args in
+    rw (wrong_tag a.bytes.now a.place a.tag a.length (omega arith) (λ e. omega arith)) (search rules)) returns-4 (λ c. search rules) (λ c. search rules) (λ c. search rules) returns-5 returns-6)

@@ -45,13 +45,6 @@ returns-2 c =
     ∙ place-restraint s.args.bytes.now s.args.number
     s.args.i c.if-number-eq7.true
 
-returns-3 : tie.Need-returns-then-number-eq11
-returns-3 c =
-    let s = c.before.before.before.before.before in
-    ends c.before.before.before
-    ∙ place-standards s.args.bytes.now s.args.number
-    s.args.i c.if-number-eq11.true
-
 mul_result : tie.Need-overflow_mul-result
 mul_result c = omega (arith, c.requires)
 
@@ -74,7 +67,10 @@ returns-5 : tie.Need-returns
 returns-5 c =
     let s = c.before.before.before.before.before.before in
     place_else s.args.bytes.now s.args.number
-    s.args.i c.if-number-eq5.false c.if-number-eq7.false c.if-number-eq11.false c.if-number-eq8.false
+    s.args.i c.if-number-eq5.false c.if-number-eq7.false (λ e. omega (arith, e)) c.if-number-eq8.false
 
 pub file_place_spec : {M : Type 1} → statement M
-file_place_spec = tie.close (tie.spec (λ c κs. search rules) add_result returns returns-2 returns-3 mul_result add_result_2 returns-4 returns-5)
+file_place_spec = tie.close (tie.spec (λ c κs. search rules) add_result returns returns-2 (λ c. let s = c.before.before.before.before.before in
+    ends c.before.before.before
+    ∙ place-standards s.args.bytes.now s.args.number
+    s.args.i (omega arith)) mul_result add_result_2 returns-4 returns-5)

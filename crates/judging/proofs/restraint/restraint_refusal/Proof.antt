@@ -3,6 +3,7 @@ use Prim.Native.Nat.{ℕ, ◌-◌, ◌/◌, ◌^◌}
 use borrow.Author.Rules.{rules}
 use mathlib.Core.Path.{◌≡◌, sym, ap, ◌∙◌}
 use native.Mathlib.Omega.{arith}
+use Rattle.std.proofs.lemmas.Int.{ints}
 use mir.Facts.{to_z-of_z}
 use Rattle.algebra.proofs.Signs.{too_low, too_high, between}
 use Rattle.meaning.specs.Design.{objects}
@@ -44,49 +45,35 @@ returns-3 c =
           (search (rw (to_z-of_z s.ranges.sum) at c.if-sum.true)),
     )))
 
-returns-4 : tie.Need-returns-then-sum-gt-SUM_LIMIT
-returns-4 c =
-    let s = c.before.before.before.before.before in
-    sym (restrained_no s.args.head s.args.set
-    s.args.sum
-    (λ r. omega (
-      arith,
-      r.sum-most,
-      too_high s.args.sum sum_limit
-          (search (rw (to_z-of_z s.ranges.sum) at c.if-sum-gt-SUM_LIMIT.true)),
-    )))
-
 -- past the tests of 7
-module _ (c : tie.Else-sum-gt-SUM_LIMIT) where
+module _ (c : tie.After-ones) where
   abbrev asked : tie.Start
-  asked = c.before.before.before.before.before
+  asked = c.before.before.before.before.before.before
 
   orderly : InOrder asked.args.head asked.args.set asked.args.sum
   orderly =
-      let read = to_z-of_z asked.ranges.sum in
       let shifted : asked.args.set / 2 ^ objects asked.args.head ≡ 0 =
-      ap (λ (v : ℕ). asked.args.set / 2 ^ v) (sym (counted c.before.before.before)) ∙ c.if-set-v-ne0.false in
+      ap (λ (v : ℕ). asked.args.set / 2 ^ v) (sym (counted c.before.before.before.before)) ∙ c.if-set-v-ne0.false in
       record {
         set-some = omega (arith, c.if-set-eq0.false);
         set-inside = none_past (objects asked.args.head) asked.args.set shifted;
-        sum-most = between asked.args.sum (sum_limit - 1) (search (rw read at c.if-sum.false))
-            (search (rw read at c.if-sum-gt-SUM_LIMIT.false));
+        sum-most = omega (arith, ints);
       }
 
 -- how many objects the set has
-standing : (c : tie.After-ones) → c.ones.result ≡ members (objects (asked c.before).args.head) (asked c.before).args.set
-standing c = let s = asked c.before in
-    c.ones.ensures ∙ ones_members _ _ (omega (arith, s.requires.objects-most)) (orderly c.before).set-inside
-
-returns-5 : tie.Need-returns-then-ones-lt2
-returns-5 c = let s = asked c.before.before in
-    sym (one_standard s.args.head s.args.set s.args.sum (orderly c.before.before) (omega (arith, standing c.before, c.if-ones-lt2.true)))
+standing : (c : tie.After-ones) → c.ones.result ≡ members (objects (asked c).args.head) (asked c).args.set
+standing c = let s = asked c in
+    c.ones.ensures ∙ ones_members _ _ (omega (arith, s.requires.objects-most)) (orderly c).set-inside
 
 returns-6 : tie.Need-returns
-returns-6 c = let s = asked c.before.before in
-    sym (restrained_yes s.args.head s.args.set s.args.sum (orderly c.before.before) (omega (arith, standing c.before, c.if-ones-lt2.false)))
+returns-6 c = let s = asked c.before in
+    sym (restrained_yes s.args.head s.args.set s.args.sum (orderly c.before) (omega (arith, standing c.before)))
 
 pub restraint_refusal_spec : {M : Type 1} → statement M
 restraint_refusal_spec =
     tie.close
-    (tie.spec returns (λ c κs. search rules) shr_if2 returns-2 (λ c. search rules) returns-3 returns-4 (λ c κs. tt) returns-5 returns-6)
+    (tie.spec returns (λ c κs. search rules) shr_if2 returns-2 (λ c. search rules) returns-3 (λ c. let s = c.before.before.before.before.before in
+    sym (restrained_no s.args.head s.args.set
+    s.args.sum
+    (λ r. omega (arith, ints, r.sum-most)))) (λ c κs. tt) (λ c. let s = asked c.before in
+    sym (one_standard s.args.head s.args.set s.args.sum (orderly c.before) (omega (arith, standing c.before)))) returns-6)

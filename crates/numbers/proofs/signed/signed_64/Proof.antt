@@ -10,11 +10,6 @@ use Rattle.numbers.proofs.signed.Halves.{upper_fits, upper-read}
 use Rattle.numbers.proofs.signed.signed_64.Statement.{statement}
 use Rattle.numbers.proofs.signed.signed_64.Tie as tie
 
-returns : tie.Need-returns-then-bits-lt9223372036854775808
-returns c =
-    let v = c.before.eight_bytes-bits.result in
-    rw (← c.before.eight_bytes-bits.ensures, to_z_pos w64 v (omega arith), lt-ltb v (2 ^ 63) (omega arith))
-
 add_result : tie.Need-overflow_add-result
 add_result c = upper_fits w64 9223372036854775807 c.before.eight_bytes-bits.result (omega arith) (omega arith) (omega arith)
 
@@ -29,4 +24,5 @@ returns-2 c =
     )
 
 pub signed_64_spec : {M : Type 1} → statement M
-signed_64_spec = tie.close (tie.spec (λ c κs. search rules) (λ c. search rules) returns (λ c. search rules) add_result returns-2)
+signed_64_spec = tie.close (tie.spec (λ c κs. search rules) (λ c. search rules) (λ c. let v = c.before.eight_bytes-bits.result in
+    rw (← c.before.eight_bytes-bits.ensures, to_z_pos w64 v (omega arith), lt-ltb v (2 ^ 63) (omega arith))) (λ c. search rules) add_result returns-2)

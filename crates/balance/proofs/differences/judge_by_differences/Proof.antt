@@ -35,20 +35,6 @@ returns c = c.no_judgement.ensures
 mul_b : tie.Need-overflow_mul-b
 mul_b c = let f = (sound _ _ (passed c.before.before)).sizes in omega arith
 
-judge_rows_requires : tie.Need-judge_rows-requires
-judge_rows_requires c κs =
-    let at = c.before.before.before in
-    let e = passed at.before in
-    let f = (sound _ _ e).sizes in
-    (omega (arith, v at), omega (arith, v at), search (one-most _ _ e at.count_differences-counted.ensures))
-
-returns-2 : tie.Need-returns
-returns-2 c =
-    let at = c.before.before.before.before in
-    let e = passed at.before in
-    let counted = at.count_differences-counted.ensures in
-    c.judge_rows.ensures ∙ search (rows-judged _ _ e counted _ (v at))
-
 pub judge_by_differences_spec : {M : Type 1} → statement M
 judge_by_differences_spec =
     tie.close
@@ -59,5 +45,11 @@ judge_by_differences_spec =
     returns
     (λ c κs. search rules)
     mul_b
-    judge_rows_requires
-    returns-2)
+    (λ c κs. let at = c.before.before.before in
+    let e = passed at.before in
+    let f = (sound _ _ e).sizes in
+    (omega (arith, v at), omega (arith, v at), search (one-most _ _ e at.count_differences-counted.ensures)))
+    (λ c. let at = c.before.before.before.before in
+    let e = passed at.before in
+    let counted = at.count_differences-counted.ensures in
+    c.judge_rows.ensures ∙ search (rows-judged _ _ e counted _ (v at))))

@@ -31,10 +31,6 @@ returns c = sym (given_no _ _ no_table _ _ (sym (verdict c.before.before.before)
 mul_b : tie.Need-overflow_mul-b
 mul_b c = let f = (sound _ _ (passed c.before)).sizes in omega arith
 
-returns-2 : tie.Need-returns
-returns-2 c = rw c.count_company.ensures
-    (search (company-table _ _ _ refl c.develop-verdict.ensures.1 (passed c.before.before.before)))
-
 pub company_spec : {M : Type 1} → statement M
 company_spec =
     tie.close
@@ -46,4 +42,5 @@ company_spec =
     mul_b
     (λ c. search rules)
     (λ c κs. search rules)
-    returns-2)
+    (λ c. rw c.count_company.ensures
+    (search (company-table _ _ _ refl c.develop-verdict.ensures.1 (passed c.before.before.before)))))

@@ -18,6 +18,15 @@ use Rattle.api.proofs.certificates.bench_certificate.Reads as bench-certificate-
 use Rattle.api.specs.contracts.certificates.bench_certificate_second as bench-certificate-second
 use Rattle.api.proofs.certificates.bench_certificate_second.Kinds as bench-certificate-second-kinds
 use Rattle.api.proofs.certificates.bench_certificate_second.Reads as bench-certificate-second-reads
+use Rattle.api.specs.contracts.checked_sheets.bench_check_parts as bench-check-parts
+use Rattle.api.proofs.checked_sheets.bench_check_parts.Kinds as bench-check-parts-kinds
+use Rattle.api.proofs.checked_sheets.bench_check_parts.Reads as bench-check-parts-reads
+use Rattle.api.specs.contracts.checked_sheets.bench_check_file as bench-check-file
+use Rattle.api.proofs.checked_sheets.bench_check_file.Kinds as bench-check-file-kinds
+use Rattle.api.proofs.checked_sheets.bench_check_file.Reads as bench-check-file-reads
+use Rattle.api.specs.contracts.checked_sheets.bench_check_second as bench-check-second
+use Rattle.api.proofs.checked_sheets.bench_check_second.Kinds as bench-check-second-kinds
+use Rattle.api.proofs.checked_sheets.bench_check_second.Reads as bench-check-second-reads
 use Rattle.api.specs.contracts.designs.bench_pairs_refusal as bench-pairs-refusal
 use Rattle.api.proofs.designs.bench_pairs_refusal.Kinds as bench-pairs-refusal-kinds
 use Rattle.api.proofs.designs.bench_pairs_refusal.Reads as bench-pairs-refusal-reads
@@ -117,15 +126,6 @@ use Rattle.api.proofs.second.bench_to_first.Reads as bench-to-first-reads
 use Rattle.api.specs.contracts.second.bench_listing_second as bench-listing-second
 use Rattle.api.proofs.second.bench_listing_second.Kinds as bench-listing-second-kinds
 use Rattle.api.proofs.second.bench_listing_second.Reads as bench-listing-second-reads
-use Rattle.api.specs.contracts.sheets.bench_check_parts as bench-check-parts
-use Rattle.api.proofs.sheets.bench_check_parts.Kinds as bench-check-parts-kinds
-use Rattle.api.proofs.sheets.bench_check_parts.Reads as bench-check-parts-reads
-use Rattle.api.specs.contracts.sheets.bench_check_file as bench-check-file
-use Rattle.api.proofs.sheets.bench_check_file.Kinds as bench-check-file-kinds
-use Rattle.api.proofs.sheets.bench_check_file.Reads as bench-check-file-reads
-use Rattle.api.specs.contracts.sheets.bench_check_second as bench-check-second
-use Rattle.api.proofs.sheets.bench_check_second.Kinds as bench-check-second-kinds
-use Rattle.api.proofs.sheets.bench_check_second.Reads as bench-check-second-reads
 use Rattle.api.specs.contracts.totals.bench_total as bench-total
 use Rattle.api.proofs.totals.bench_total.Kinds as bench-total-kinds
 use Rattle.api.proofs.totals.bench_total.Reads as bench-total-reads
@@ -171,6 +171,30 @@ module _ (κs : Lfts 3) (a : ArgsD bench-certificate-second.signature κs) (r q 
       × (s.1.0.now ≡ t.1.0.now)
       × (s.1.1.0.now ≡ t.1.1.0.now)
   bench_certificate_second_determined p e = (p.0 ∙ sym e.0, p.1.0 ∙ sym e.1.0, p.1.1 ∙ sym e.1.1)
+
+-- `bench_check_parts`: the answer, `answer`
+module _ (κs : Lfts 4) (a : ArgsD bench-check-parts.signature κs) (r q : ResD bench-check-parts.signature κs)
+    (s t : AtExit (ended_of 4 bench-check-parts-kinds.ps bench-check-parts-kinds.r) κs) where
+  pub bench_check_parts_determined : bench-check-parts-reads.Post κs a r s → bench-check-parts-reads.Post κs a q t →
+      (r ≡ q)
+      × (s.1.1.1.1.1.1.1.1.1.1.1.1.0.now ≡ t.1.1.1.1.1.1.1.1.1.1.1.1.0.now)
+  bench_check_parts_determined p e = (p.0 ∙ sym e.0, p.1 ∙ sym e.1)
+
+-- `bench_check_file`: the answer, `answer`
+module _ (κs : Lfts 3) (a : ArgsD bench-check-file.signature κs) (r q : ResD bench-check-file.signature κs)
+    (s t : AtExit (ended_of 3 bench-check-file-kinds.ps bench-check-file-kinds.r) κs) where
+  pub bench_check_file_determined : bench-check-file-reads.Post κs a r s → bench-check-file-reads.Post κs a q t →
+      (r ≡ q)
+      × (s.1.1.1.1.1.0.now ≡ t.1.1.1.1.1.0.now)
+  bench_check_file_determined p e = (p.0 ∙ sym e.0, p.1 ∙ sym e.1)
+
+-- `bench_check_second`: the answer, `answer`
+module _ (κs : Lfts 3) (a : ArgsD bench-check-second.signature κs) (r q : ResD bench-check-second.signature κs)
+    (s t : AtExit (ended_of 3 bench-check-second-kinds.ps bench-check-second-kinds.r) κs) where
+  pub bench_check_second_determined : bench-check-second-reads.Post κs a r s → bench-check-second-reads.Post κs a q t →
+      (r ≡ q)
+      × (s.1.1.1.1.1.0.now ≡ t.1.1.1.1.1.0.now)
+  bench_check_second_determined p e = (p.0 ∙ sym e.0, p.1 ∙ sym e.1)
 
 -- `bench_pairs_refusal`: the answer
 module _ (κs : Lfts 1) (a : ArgsD bench-pairs-refusal.signature κs) (r q : ResD bench-pairs-refusal.signature κs)
@@ -482,30 +506,6 @@ module _ (κs : Lfts 3) (a : ArgsD bench-listing-second.signature κs) (r q : Re
       × (s.1.0.now ≡ t.1.0.now)
       × (s.1.1.0.now ≡ t.1.1.0.now)
   bench_listing_second_determined p e = (p.0 ∙ sym e.0, p.1.0 ∙ sym e.1.0, p.1.1 ∙ sym e.1.1)
-
--- `bench_check_parts`: the answer, `answer`
-module _ (κs : Lfts 4) (a : ArgsD bench-check-parts.signature κs) (r q : ResD bench-check-parts.signature κs)
-    (s t : AtExit (ended_of 4 bench-check-parts-kinds.ps bench-check-parts-kinds.r) κs) where
-  pub bench_check_parts_determined : bench-check-parts-reads.Post κs a r s → bench-check-parts-reads.Post κs a q t →
-      (r ≡ q)
-      × (s.1.1.1.1.1.1.1.1.1.1.1.1.0.now ≡ t.1.1.1.1.1.1.1.1.1.1.1.1.0.now)
-  bench_check_parts_determined p e = (p.0 ∙ sym e.0, p.1 ∙ sym e.1)
-
--- `bench_check_file`: the answer, `answer`
-module _ (κs : Lfts 3) (a : ArgsD bench-check-file.signature κs) (r q : ResD bench-check-file.signature κs)
-    (s t : AtExit (ended_of 3 bench-check-file-kinds.ps bench-check-file-kinds.r) κs) where
-  pub bench_check_file_determined : bench-check-file-reads.Post κs a r s → bench-check-file-reads.Post κs a q t →
-      (r ≡ q)
-      × (s.1.1.1.1.1.0.now ≡ t.1.1.1.1.1.0.now)
-  bench_check_file_determined p e = (p.0 ∙ sym e.0, p.1 ∙ sym e.1)
-
--- `bench_check_second`: the answer, `answer`
-module _ (κs : Lfts 3) (a : ArgsD bench-check-second.signature κs) (r q : ResD bench-check-second.signature κs)
-    (s t : AtExit (ended_of 3 bench-check-second-kinds.ps bench-check-second-kinds.r) κs) where
-  pub bench_check_second_determined : bench-check-second-reads.Post κs a r s → bench-check-second-reads.Post κs a q t →
-      (r ≡ q)
-      × (s.1.1.1.1.1.0.now ≡ t.1.1.1.1.1.0.now)
-  bench_check_second_determined p e = (p.0 ∙ sym e.0, p.1 ∙ sym e.1)
 
 -- `bench_total`: the answer, `signed`
 module _ (κs : Lfts 3) (a : ArgsD bench-total.signature κs) (r q : ResD bench-total.signature κs)

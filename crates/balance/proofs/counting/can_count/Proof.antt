@@ -24,9 +24,6 @@ returns-2 c = sym (not-countable _ _ (λ k. omega (arith, k.words_long)))
 loop-holds : tie.Need-loop-c-init invariant-loop decreases-loop
 loop-holds c = (omega arith, omega arith, omega arith, omega arith, λ k l. absurd (omega arith))
 
-returns-3 : tie.Need-returns-then-words-c-ge1125899906842624 invariant-loop decreases-loop
-returns-3 c = sym (not-countable _ _ (λ k. omega (arith, k.below c.loop-c.c (omega arith))))
-
 loop-again : tie.Need-loop-c-preserved invariant-loop decreases-loop
 loop-again c = (omega arith, omega arith, omega arith, omega arith, below_more _ _ c.loop-c.invariant.4 (omega arith))
 
@@ -48,7 +45,7 @@ can_count_spec =
     loop-holds
     (λ c. omega arith)
     (λ c. omega arith)
-    returns-3
+    (λ c. sym (not-countable _ _ (λ k. omega (arith, k.below c.loop-c.c (omega arith)))))
     (λ c. omega arith)
     (λ c. omega arith)
     loop-again

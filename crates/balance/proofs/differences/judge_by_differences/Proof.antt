@@ -45,13 +45,11 @@ judge_by_differences_spec =
     returns
     (λ c κs. search rules)
     mul_b
-    (λ c κs.
-    let at = c.before.before.before in
+    (λ c κs. let at = c.before.before.before in
     let e = passed at.before in
     let f = (sound _ _ e).sizes in
     (omega (arith, v at), omega (arith, v at), search (one-most _ _ e at.count_differences-counted.ensures)))
-    (λ c.
-    let at = c.before.before.before.before in
+    (λ c. let at = c.before.before.before.before in
     let e = passed at.before in
     let counted = at.count_differences-counted.ensures in
     c.judge_rows.ensures ∙ search (rows-judged _ _ e counted _ (v at))))

@@ -42,4 +42,5 @@ company_spec =
     mul_b
     (λ c. search rules)
     (λ c κs. search rules)
-    (λ c. rw c.count_company.ensures (search (company-table _ _ _ refl c.develop-verdict.ensures.1 (passed c.before.before.before)))))
+    (λ c. rw c.count_company.ensures
+    (search (company-table _ _ _ refl c.develop-verdict.ensures.1 (passed c.before.before.before)))))

@@ -31,10 +31,6 @@ returns-2 : tie.Need-returns-then-blocks-p
 unfolding sizes_verdict
 returns-2 c = rw (passed c.before, ne_eqb _ _ c.if-blocks-p.true)
 
-returns-3 : tie.Need-returns-then-g-lt2
-unfolding sizes_verdict
-returns-3 c = rw (passed c.before.before, eq-eqb _ _ c.if-blocks-p.false, lt-leb 2 c.args.g (omega arith))
-
 -- an object more than fits in one group does not fit in three
 too_many : (g v : ℕ) → 50 < g → 3 ≤ v → 50 < g * v
 too_many g v l m = omega (arith, mul-le-mul_left g m)
@@ -96,6 +92,7 @@ returns-6 c =
     )
 
 pub sizes_refusal_spec : {M : Type 1} → statement M
+unfolding sizes_verdict
 sizes_refusal_spec =
     tie.close
     (tie.spec
@@ -104,7 +101,7 @@ sizes_refusal_spec =
     mul_if2
     mul_if2_2
     returns-2
-    returns-3
+    (λ c. rw (passed c.before.before, eq-eqb _ _ c.if-blocks-p.false, lt-leb 2 c.args.g (omega arith)))
     returns-4
     (λ c κs. search rules)
     mul_if5

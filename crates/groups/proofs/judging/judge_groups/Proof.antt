@@ -25,12 +25,6 @@ module _ (c : tie.After-stranger-far) where
   far : c.stranger-far.result < 50
   far = omega (arith, c.stranger-far.ensures, (stranger-below _ (even-groups _ start.requires.2)).1, start.requires.0, start.requires.1)
 
-mul_t10 : tie.Need-offset_bounds-company-near
-mul_t10 c = omega (arith, near c)
-
-index_1_t15 : tie.Need-bounds-company-near
-index_1_t15 c = near c
-
 mul_t16 : tie.Need-offset_bounds-opposition-near
 mul_t16 c = omega (arith, near c.before)
 
@@ -67,8 +61,8 @@ judge_groups_spec =
     (tie.spec
     (λ c κs. some c.before)
     (λ c κs. some c.before.before)
-    mul_t10
-    index_1_t15
+    (λ c. omega (arith, near c))
+    (λ c. near c)
     (λ c. search rules)
     mul_t16
     index_1_t21

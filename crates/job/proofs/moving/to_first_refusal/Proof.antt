@@ -18,12 +18,6 @@ returns c =
 passed : (c : tie.Else-is_refused) → read_verdict2 c.args.bytes.now ≡ accepted
 passed c = sym c.second_refusal-tested.ensures ∙ accepting _ (sym c.is_refused.ensures ∙ c.if-is_refused.false)
 
-returns-2 : tie.Need-returns-then-end-bytes
-returns-2 c =
-    let a = c.args in
-    let end = c.four_end-end.ensures in
-    rw (first-optional a.bytes.now a.space (passed c.before.before) (omega (arith, end)), end) (search rules)
-
 sub_if3 : tie.Need-overflow_sub-end
 sub_if3 c = omega (arith, c.four_end-end.ensures)
 
@@ -41,4 +35,6 @@ returns-4 c =
 
 pub to_first_refusal_spec : {M : Type 1} → statement M
 to_first_refusal_spec =
-    tie.close (tie.spec (λ c κs. search rules) (λ c κs. search rules) returns (λ c κs. search rules) returns-2 sub_if3 returns-3 returns-4)
+    tie.close (tie.spec (λ c κs. search rules) (λ c κs. search rules) returns (λ c κs. search rules) (λ c. let a = c.args in
+    let end = c.four_end-end.ensures in
+    rw (first-optional a.bytes.now a.space (passed c.before.before) (omega (arith, end)), end) (search rules)) sub_if3 returns-3 returns-4)

@@ -15,9 +15,6 @@ use Rattle.job.proofs.second.Nearness.{fields-place}
 use Rattle.job.proofs.second.second_fields.Statement.{statement}
 use Rattle.job.proofs.second.second_fields.Tie as tie
 
-returns : tie.Need-returns-then-bytes-gt-FILE_LIMIT
-returns c = rw (too_long c.args.bytes.now c.if-bytes-gt-FILE_LIMIT.true) (search rules)
-
 returns-2 : tie.Need-returns-then-is_refused
 returns-2 c =
     edition_refuses c.args.bytes.now (omega arith) _ c.edition_refusal-edition.ensures
@@ -77,7 +74,7 @@ pub second_fields_spec : {M : Type 1} → statement M
 second_fields_spec =
     tie.close
     (tie.spec
-    returns
+    (λ c. rw (too_long c.args.bytes.now (omega arith)) (search rules))
     (λ c κs. search rules)
     (λ c κs. search rules)
     returns-2

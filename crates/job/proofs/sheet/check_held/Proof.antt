@@ -17,6 +17,7 @@ use Rattle.meaning.specs.Sheet.{check_answer}
 use Rattle.laws.proofs.Files.{filed}
 use Rattle.job.proofs.places.Places.{readings-most}
 use Rattle.job.proofs.Holding.{held-blocks, held-readings}
+use mir.Val.{SFits}
 use Rattle.job.proofs.sheet.check_held.Statement.{statement}
 use Rattle.job.proofs.sheet.check_held.Tie as tie
 
@@ -80,7 +81,7 @@ module _ (c : tie.After-check_sheet) where
   set = ap (λ (k : Held). k.set) check_of.held-held.ensures
 
   sum : to_z w64 (of_z w64 check_of.held-held.result.sum) ≡ sum_of check_start.args.bytes.now
-  sum = read_back _ c.struct_told-1.given.1.1.1.1.1.1.0.1 ∙ ap (λ (k : Held). k.sum) check_of.held-held.ensures
+  sum = (let f : SFits w64 check_of.held-held.result.sum = search rules in read_back check_of.held-held.result.sum f.sfits) ∙ ap (λ (k : Held). k.sum) check_of.held-held.ensures
 
 returns : tie.Need-returns
 returns c =

@@ -5,17 +5,8 @@ use Rattle.listing.specs.Sheet.{sheet_text}
 use Rattle.listing.proofs.text.put_listing.Statement.{statement}
 use Rattle.listing.proofs.text.put_listing.Tie as tie
 
-returns : tie.Need-returns-in-Accepted
-unfolding sheet_text
-returns c =
-    named c.put_job.ensures (rw c.in-Accepted.is (search rules))
-
-returns-2 : tie.Need-returns-in-Refused
-unfolding sheet_text
-returns-2 c =
-    named c.put_refused.ensures (rw c.in-Refused.is (search rules))
-
 pub put_listing_spec : {M : Type 1} → statement M
+unfolding sheet_text
 put_listing_spec =
     tie.close
     (tie.spec
@@ -24,6 +15,6 @@ put_listing_spec =
     (λ c. search rules)
     (λ c κs. tt)
     (λ c. search rules)
-    returns
+    (λ c. named c.put_job.ensures (rw c.in-Accepted.is (search rules)))
     (λ c. search rules)
-    returns-2)
+    (λ c. named c.put_refused.ensures (rw c.in-Refused.is (search rules))))

@@ -11,13 +11,9 @@ use Rattle.listing.proofs.text.render.Tie as tie
 short : (c : tie.After-one-1) → length c.args.out.now < 18446744073709551615
 short c = omega arith
 
-returns : tie.Need-returns-then-out-length
-returns c = no_room _ _ (omega arith) c.put_listing-length.ensures (omega arith)
-
 returns-2 : tie.Need-returns
 returns-2 c =
-    let room = c.if-out-length.false in
-    in_room _ _ (short c.before.before.before.before.before.before.before) c.put_listing-length.ensures (omega (arith, room)) c.put_listing.ensures
+    in_room _ _ (short c.before.before.before.before.before.before.before) c.put_listing-length.ensures (omega arith) c.put_listing.ensures
 
 pub render_spec : {M : Type 1} → statement M
 render_spec =
@@ -25,7 +21,7 @@ render_spec =
     (tie.spec
     (λ c. search rules)
     (λ c κs. search c.requires)
-    returns
+    (λ c. no_room _ _ (omega arith) c.put_listing-length.ensures (omega arith))
     (λ c κs. search c.requires)
     (λ c. search rules)
     returns-2)

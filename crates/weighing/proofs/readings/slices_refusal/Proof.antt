@@ -3,6 +3,8 @@ use borrow.Author.Rules.{rules}
 use mathlib.Core.Path.{◌≡◌, sym, ◌∙◌}
 use mathlib.Core.Bool.{true}
 use native.Mathlib.Omega.{arith}
+use Prim.Native.Nat.{◌*◌}
+use lib.ListN.{length}
 use borrow.Author.Tests.{not-true, not-false, eq-eqb, ne_eqb}
 use Rattle.meaning.specs.Design.{sized}
 use Rattle.meaning.specs.Calls.{slices}
@@ -18,19 +20,16 @@ returns : tie.Need-returns-then-not-sized
 unfolding slices
 returns c = rw (sym c.sized.ensures ∙ not-true _ c.if-not-sized.true-raw) (search rules)
 
-returns-2 : tie.Need-returns-then-blocks-p
-unfolding slices
-returns-2 c = rw (passed c.before, ne_eqb _ _ c.if-blocks-p.true)
-
 returns-3 : tie.Need-returns-then-readings-m
 unfolding slices
-returns-3 c = rw (passed c.before.before, eq-eqb _ _ c.if-blocks-p.false, ne_eqb _ _ c.if-readings-m.true)
+returns-3 c = rw (passed c.before.before, eq-eqb (length c.args.blocks.now) (2 * c.args.head.p * c.args.head.m) (omega arith), ne_eqb _ _ c.if-readings-m.true)
 
 returns-4 : tie.Need-returns
 unfolding slices
-returns-4 c = rw (passed c.before.before, eq-eqb _ _ c.if-blocks-p.false, eq-eqb _ _ c.if-readings-m.false)
+returns-4 c = rw (passed c.before.before, eq-eqb (length c.args.blocks.now) (2 * c.args.head.p * c.args.head.m) (omega arith), eq-eqb _ _ c.if-readings-m.false)
 
 pub slices_refusal_spec : {M : Type 1} → statement M
+unfolding slices
 slices_refusal_spec =
     tie.close
     (tie.spec
@@ -38,7 +37,7 @@ slices_refusal_spec =
     returns
     (λ c. let f = fits _ (passed c) in omega arith)
     (λ c. omega (arith, listed-most _ (fits _ (passed c))))
-    returns-2
+    (λ c. rw (passed c.before, ne_eqb (length c.args.blocks.now) (2 * c.args.head.p * c.args.head.m) (λ e. omega (arith, e))))
     (λ c. let f = fits _ (passed c.before) in omega arith)
     returns-3
     returns-4)

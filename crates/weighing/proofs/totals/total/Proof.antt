@@ -47,12 +47,6 @@ returns-2 c =
     c.no_total-then-objects-object.ensures ∙ no_total_is _ _ _ _ (refused 5 _) refl (total_no_object _ _ _ _ (passed c.before.before.before) (rw (← v) (search rules)))
 
 -- the object has its place among 50 totals
-mul_total : tie.Need-offset_bounds-totals-object
-mul_total c = let f = (laid c.before.before.before.before.before.before).sizes in omega (arith, counted c.before.before.before.before.before)
-
-array_copy_out_total : tie.Need-bounds-totals-object
-array_copy_out_total c = let f = (laid c.before.before.before.before.before.before).sizes in
-    omega (arith, counted c.before.before.before.before.before)
 
 returns-3 : tie.Need-returns
 returns-3 c =
@@ -79,6 +73,7 @@ total_spec =
     (λ c. words_long _ _ _ _ _ refl c.developed-tested.ensures.1)
     (λ c. search rules)
     (λ c κs. search rules)
-    mul_total
-    array_copy_out_total
+    (λ c. let f = (laid c.before.before.before.before.before.before).sizes in omega (arith, counted c.before.before.before.before.before))
+    (λ c. let f = (laid c.before.before.before.before.before.before).sizes in
+    omega (arith, counted c.before.before.before.before.before))
     returns-3)

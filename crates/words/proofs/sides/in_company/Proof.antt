@@ -21,6 +21,6 @@ in_company_spec =
     (λ c. search rules)
     (λ c. search rules)
     (λ c. pair_full c.before.before.before.args.word c.before.before.before.args.i c.before.before.before.args.j
-        (omega arith) (omega arith) (search rules))
+    (omega arith) (omega arith) (search rules))
     (λ c. pair-part c.before.before.before.args.word c.before.before.before.args.i c.before.before.before.args.j
-        (omega arith) (omega arith) (search rules)))
+    (omega arith) (omega arith) (search rules)))

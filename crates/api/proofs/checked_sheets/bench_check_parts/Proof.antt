@@ -1,8 +1,8 @@
--- `api::sheets::bench_check_parts` meets its contract: what `check_sheet` gave is told and laid. Assumes nothing.
+-- `api::checked_sheets::bench_check_parts` meets its contract: what `check_sheet` gave is told and laid. Assumes nothing.
 use borrow.Author.Rules.{rules}
 use mir.Facts.{to_z-of_z}
-use Rattle.api.proofs.sheets.bench_check_parts.Statement.{statement}
-use Rattle.api.proofs.sheets.bench_check_parts.Tie as tie
+use Rattle.api.proofs.checked_sheets.bench_check_parts.Statement.{statement}
+use Rattle.api.proofs.checked_sheets.bench_check_parts.Tie as tie
 
 returns : tie.Need-returns
 returns c =

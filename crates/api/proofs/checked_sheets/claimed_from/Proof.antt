@@ -1,8 +1,8 @@
--- `api::sheets::claimed_from` meets its contract: each way out by what the test says. Assumes nothing.
+-- `api::checked_sheets::claimed_from` meets its contract: each way out by what the test says. Assumes nothing.
 use borrow.Author.Rules.{rules}
 use borrow.Author.Tests.{eq-eqb, ne_eqb}
-use Rattle.api.proofs.sheets.claimed_from.Statement.{statement}
-use Rattle.api.proofs.sheets.claimed_from.Tie as tie
+use Rattle.api.proofs.checked_sheets.claimed_from.Statement.{statement}
+use Rattle.api.proofs.checked_sheets.claimed_from.Tie as tie
 
 returns : tie.Need-returns-then-has-eq0
 returns c = rw (eq-eqb _ _ c.if-has-eq0.true) (search rules)

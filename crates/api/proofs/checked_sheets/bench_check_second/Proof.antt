@@ -1,7 +1,7 @@
--- `api::sheets::bench_check_second` meets its contract: what `check_second` gave is told and laid. Assumes nothing.
+-- `api::checked_sheets::bench_check_second` meets its contract: what `check_second` gave is told and laid. Assumes nothing.
 use borrow.Author.Rules.{rules}
-use Rattle.api.proofs.sheets.bench_check_second.Statement.{statement}
-use Rattle.api.proofs.sheets.bench_check_second.Tie as tie
+use Rattle.api.proofs.checked_sheets.bench_check_second.Statement.{statement}
+use Rattle.api.proofs.checked_sheets.bench_check_second.Tie as tie
 
 returns : tie.Need-returns
 returns c =

@@ -47,31 +47,6 @@ long c = c.loop-k.invariant.2.long ∙ c.requires.4.long
 abbrev known : tie.After-slice_known-in-loop-k-1 invariant-loop decreases-loop → tie.After-object_of-object invariant-loop decreases-loop
 known c = c.before
 
-add_counts : tie.Need-overflow_add-counts invariant-loop decreases-loop
-add_counts c =
-    let s = (known c).before.before.before.before.before.before in
-    let l = (known c).loop-k in
-    let e = (known c).object_of-object.result in
-    let m = object (known c) in
-    omega (
-      arith,
-      l.invariant.2.each e m,
-      s.requires.4.most e m,
-      part-most (moved s.args.head s.args.shift) e s.args.side.now l.k s.requires.3.few l.invariant.0,
-    )
-
-loop-again : tie.Need-loop-k-preserved invariant-loop decreases-loop
-loop-again c =
-    let s = (known c).before.before.before.before.before.before in
-    let l = (known c).loop-k in
-    let more : l.k < length s.args.side.now = omega arith in (
-      search rules,
-      search rules,
-      search
-          (counted_next (moved s.args.head s.args.shift) s.args.side.now l.k (known c).object_of-object.result l.counts s.args.counts.now more
-          (known c).object_of-object.ensures (omega (arith, object (known c), l.invariant.2.long, s.requires.4.long)) l.invariant.2),
-    )
-
 returns : tie.Need-returns invariant-loop decreases-loop
 returns c =
     let a = c.args in
@@ -90,10 +65,25 @@ add_side_spec =
     object_of_requires
     (λ c. omega (arith, object c))
     (λ c. omega (arith, object c.before, long c.before))
-    add_counts
+    (λ c.
+    let s = (known c).before.before.before.before.before.before in
+    let l = (known c).loop-k in
+    let e = (known c).object_of-object.result in
+    let m = object (known c) in
+    let few = part-most (moved s.args.head s.args.shift) e s.args.side.now l.k s.requires.3.few l.invariant.0 in
+    grind (arith, l.invariant.2.each e m, s.requires.4.most e m, few))
     (λ c. omega (arith, object (known c), long (known c)))
     (λ c. search rules)
     (λ c. search rules)
-    loop-again
+    (λ c.
+    let s = (known c).before.before.before.before.before.before in
+    let l = (known c).loop-k in
+    let more : l.k < length s.args.side.now = omega arith in (
+      search rules,
+      search rules,
+      search
+          (counted_next (moved s.args.head s.args.shift) s.args.side.now l.k (known c).object_of-object.result l.counts s.args.counts.now more
+          (known c).object_of-object.ensures (omega (arith, object (known c), l.invariant.2.long, s.requires.4.long)) l.invariant.2),
+    ))
     (λ c. c.loop-k.invariant.2.long)
     returns)

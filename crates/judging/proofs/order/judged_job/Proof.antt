@@ -1,10 +1,9 @@
 -- `judging::order::judged_job` meets its contract: past the lengths its verdict is the chain of the other tests. Assumes nothing.
 use borrow.Author.Rules.{rules}
-use mathlib.Core.Path.{◌≡◌, sym, ap, ap₂, ◌∙◌}
+use mathlib.Core.Path.{◌≡◌, sym, ap, ◌∙◌}
 use mir.Facts.{to_z-of_z}
 use Rattle.records.specs.declared.Judged.{Judged}
-use Rattle.records.specs.declared.Verdict.{Verdict}
-use Rattle.meaning.specs.Refusals.{◌⨾◌, accepted, restraint, in_reach}
+use Rattle.meaning.specs.Refusals.{accepted, restraint}
 use Rattle.meaning.specs.Calls.{slices, job_verdict, judge_verdict}
 use Rattle.laws.proofs.Chains.{sliced, opened}
 use Rattle.verdicts.proofs.Told.{refusing, accepting}

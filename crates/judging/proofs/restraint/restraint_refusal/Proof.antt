@@ -1,16 +1,15 @@
 -- `judging::restraint::restraint_refusal` meets its contract: each way out by the fact that its test denies. Assumes nothing.
-use Prim.Native.Nat.{ℕ, ◌-◌, ◌/◌, ◌^◌}
+use Prim.Native.Nat.{ℕ, ◌-◌, ◌/◌, ◌^◌, ◌<◌}
 use borrow.Author.Rules.{rules}
 use mathlib.Core.Path.{◌≡◌, sym, ap, ◌∙◌}
 use native.Mathlib.Omega.{arith}
 use Rattle.std.proofs.lemmas.Int.{ints}
 use mir.Facts.{to_z-of_z}
-use Rattle.algebra.proofs.Signs.{too_low, too_high, between}
+use Rattle.algebra.proofs.Signs.{too_low}
 use Rattle.meaning.specs.Design.{objects}
 use Rattle.meaning.specs.Refusals.{sum_limit}
 use Rattle.design.proofs.Within.{within-sizes}
 use Rattle.judging.proofs.Restrained.{none_past, past_none, restrained_yes, one_standard, restrained_no}
-use Rattle.laws.proofs.Chains.{InOrder}
 use Rattle.meaning.specs.Analysis.{members}
 use Rattle.words.proofs.Members.{ones_members}
 use Rattle.judging.proofs.restraint.restraint_refusal.Statement.{statement}
@@ -45,35 +44,32 @@ returns-3 c =
           (search (rw (to_z-of_z s.ranges.sum) at c.if-sum.true)),
     )))
 
--- past the tests of 7
-module _ (c : tie.After-ones) where
-  abbrev asked : tie.Start
-  asked = c.before.before.before.before.before.before
-
-  orderly : InOrder asked.args.head asked.args.set asked.args.sum
-  orderly =
-      let shifted : asked.args.set / 2 ^ objects asked.args.head ≡ 0 =
-      ap (λ (v : ℕ). asked.args.set / 2 ^ v) (sym (counted c.before.before.before.before)) ∙ c.if-set-v-ne0.false in
-      record {
-        set-some = omega (arith, c.if-set-eq0.false);
-        set-inside = none_past (objects asked.args.head) asked.args.set shifted;
-        sum-most = omega (arith, ints);
-      }
+-- past the tests of the set it has no bit from v on
+inside : (c : tie.After-ones) → c.args.set < 2 ^ objects c.args.head
+inside c =
+    let shifted : c.args.set / 2 ^ objects c.args.head ≡ 0 =
+    ap (λ (v : ℕ). c.args.set / 2 ^ v) (sym (counted c.before.before.before.before)) ∙ c.if-set-v-ne0.false in
+    none_past (objects c.args.head) c.args.set shifted
 
 -- how many objects the set has
-standing : (c : tie.After-ones) → c.ones.result ≡ members (objects (asked c).args.head) (asked c).args.set
-standing c = let s = asked c in
-    c.ones.ensures ∙ ones_members _ _ (omega (arith, s.requires.objects-most)) (orderly c).set-inside
-
-returns-6 : tie.Need-returns
-returns-6 c = let s = asked c.before in
-    sym (restrained_yes s.args.head s.args.set s.args.sum (orderly c.before) (omega (arith, standing c.before)))
+standing : (c : tie.After-ones) → c.ones.result ≡ members (objects c.args.head) c.args.set
+standing c = c.ones.ensures ∙ ones_members _ _ (omega (arith, c.requires.objects-most)) (inside c)
 
 pub restraint_refusal_spec : {M : Type 1} → statement M
 restraint_refusal_spec =
     tie.close
-    (tie.spec returns (λ c κs. search rules) shr_if2 returns-2 (λ c. search rules) returns-3 (λ c. let s = c.before.before.before.before.before in
-    sym (restrained_no s.args.head s.args.set
-    s.args.sum
-    (λ r. omega (arith, ints, r.sum-most)))) (λ c κs. tt) (λ c. let s = asked c.before in
-    sym (one_standard s.args.head s.args.set s.args.sum (orderly c.before) (omega (arith, standing c.before)))) returns-6)
+    (tie.spec
+    returns
+    (λ c κs. search rules)
+    shr_if2
+    returns-2
+    (λ c. search rules)
+    returns-3
+    (λ c. sym (restrained_no c.args.head c.args.set c.args.sum (λ r. omega (arith, ints, r.sum-most))))
+    (λ c κs. tt)
+    (λ c. sym (one_standard c.args.head c.args.set c.args.sum
+    (record { set-some = omega (arith, c.if-set-eq0.false); set-inside = inside c.before; sum-most = omega (arith, ints) })
+    (omega (arith, standing c.before))))
+    (λ c. sym (restrained_yes c.args.head c.args.set c.args.sum
+    (record { set-some = omega (arith, c.if-set-eq0.false); set-inside = inside c.before; sum-most = omega (arith, ints) })
+    (omega (arith, standing c.before)))))

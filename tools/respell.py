@@ -3,7 +3,7 @@
 
 What the project's .antt files declare is written in snake case: `squaredReadings` becomes `squared_readings`, `write-length` stays where a dash joins two names and
 becomes `write_length` where it joins a plain word to one. Types, facts and modules keep their capital. Names of Rattle's own and functions of src/ are left as they are.
-The must-fail edits and the pages (where a name stands between backticks) follow. `--say` prints the renamings and the names that would fall together, and writes nothing."""
+The pages (where a name stands between backticks) follow; the must-fail edits are brought over after it. `--say` prints the renamings and the names that would fall together, and writes nothing."""
 import pathlib
 import re
 import subprocess

@@ -35,7 +35,7 @@ over-times D m n x y p r = record {
       ∙ ring₄ (λ m a n c. (m ⊗ a) ⊗ (n ⊗ c) ≐ m ⊗ n ⊗ (a ⊗ c)) m (pos x.bottom) n (pos y.bottom) refl;
 }
 
--- n times D over D-as-D is n over D
+-- n times D over D·D is n over D
 struck : (D : ℕ) (n m : ℤ) (x : Fraction) → 0 < D → Over (D * D) m x → m ≡ n *ℤ pos D → Same (record { top = n; bottom = D }) x
 struck D n m x some o e = record {
   left-bottom = some;

@@ -10,15 +10,6 @@ use Rattle.api.proofs.card_texts.Slot.{call, none, one}
 use Rattle.api.proofs.card_texts.bench_card.Statement.{statement}
 use Rattle.api.proofs.card_texts.bench_card.Tie as tie
 
-returns : tie.Need-returns-then-answer-lt1
-returns c =
-    let a = c.args in
-    let text = card_text_of a.bytes.now in
-    let e = none text a.out.now a.answer.now (omega arith) in
-    let said : c.told.result ≡ told (refused 10 0) = search c.told.ensures in
-    let refused = stays (call text a.out.now a.answer.now) accepted _ _ e in
-    (said ∙ ap told (sym e), (refused, stays (call text a.out.now a.answer.now) accepted _ _ e))
-
 returns-2 : tie.Need-returns
 returns-2 c =
     let a = c.args in
@@ -31,7 +22,12 @@ bench_card_spec =
     tie.close
     (tie.spec
     (λ c κs. tt)
-    returns
+    (λ c. let a = c.args in
+    let text = card_text_of a.bytes.now in
+    let e = none text a.out.now a.answer.now (omega arith) in
+    let said : c.told.result ≡ told (refused 10 0) = search c.told.ensures in
+    let refused = stays (call text a.out.now a.answer.now) accepted _ _ e in
+    (said ∙ ap told (sym e), (refused, stays (call text a.out.now a.answer.now) accepted _ _ e)))
     (λ c κs. tt)
     (λ c κs. tt)
     (λ c. search rules)

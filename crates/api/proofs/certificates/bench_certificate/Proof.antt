@@ -45,15 +45,6 @@ returns c =
     let said : c.told.result ≡ told (refused 10 0) = search c.told.ensures in
     (said ∙ ap told (sym e), (stays (call s) accepted _ _ e, stays (call s) accepted _ _ e))
 
-returns-2 : tie.Need-returns
-returns-2 c =
-    let laid = c.before.before in
-    let certified = laid.before.before.before.before in
-    let s = certified.before.before.before.before.before.before in
-    let given = certified.certificate.ensures in
-    let handed = rw given.0 at laid.lay_listed.ensures in
-    (search handed.0, (given.1 ∙ one s certified.if-answer-lt1.false, search handed.1))
-
 pub bench_certificate_spec : {M : Type 1} → statement M
 bench_certificate_spec =
     tie.close
@@ -64,4 +55,9 @@ bench_certificate_spec =
     (λ c κs. tt)
     (λ c. search rules)
     (λ c. search rules)
-    returns-2)
+    (λ c. let laid = c.before.before in
+    let certified = laid.before.before.before.before in
+    let s = certified.before.before.before.before.before.before in
+    let given = certified.certificate.ensures in
+    let handed = rw given.0 at laid.lay_listed.ensures in
+    (search handed.0, (given.1 ∙ one s certified.if-answer-lt1.false, search handed.1))))

@@ -55,37 +55,30 @@ few c = omega (
 
 -- what the call was handed
 module _ (c : tie.After-check_sheet) where
-  abbrev check_start : tie.Start
-  check_start = c.before.before.before.before.before.before.before.before.before.before
+  listed : take (c.held-held.result.restraint_at - c.held-held.result.blocks_at)
+      (drop c.held-held.result.blocks_at c.args.bytes.now) ≡ blocks_of c.args.bytes.now
+  listed = held-blocks c.args.bytes.now c.held-held.result c.held-held.ensures
 
-  abbrev check_of : tie.After-held-held
-  check_of = c.before.before.before.before.before.before.before.before
-
-  abbrev at-readings : tie.After-readings
-  at-readings = c.before.before.before.before.before
-
-  listed : take (check_of.held-held.result.restraint_at - check_of.held-held.result.blocks_at)
-      (drop check_of.held-held.result.blocks_at check_start.args.bytes.now) ≡ blocks_of check_start.args.bytes.now
-  listed = held-blocks check_start.args.bytes.now check_of.held-held.result check_of.held-held.ensures
-
-  read : take check_of.held-held.result.count at-readings.readings.new.out ≡ readings_of check_start.args.bytes.now
+  read : take c.held-held.result.count c.readings.new.out ≡ readings_of c.args.bytes.now
   read =
-      let most = readings-most _ check_start.requires in
-      held-readings check_start.args.bytes.now check_of.held-held.result check_of.held-held.ensures _ _ (omega arith)
-      at-readings.readings.ensures
+      let most = readings-most _ c.requires in
+      held-readings c.args.bytes.now c.held-held.result c.held-held.ensures _ _ (omega arith)
+      c.readings.ensures
 
-  head : check_of.held-held.result.head ≡ head_of check_start.args.bytes.now
-  head = ap (λ (k : Held). k.head) check_of.held-held.ensures
+  head : c.held-held.result.head ≡ head_of c.args.bytes.now
+  head = ap (λ (k : Held). k.head) c.held-held.ensures
 
-  set : check_of.held-held.result.set ≡ set_of check_start.args.bytes.now
-  set = ap (λ (k : Held). k.set) check_of.held-held.ensures
+  set : c.held-held.result.set ≡ set_of c.args.bytes.now
+  set = ap (λ (k : Held). k.set) c.held-held.ensures
 
-  sum : to_z w64 (of_z w64 check_of.held-held.result.sum) ≡ sum_of check_start.args.bytes.now
-  sum = (let f : SFits w64 check_of.held-held.result.sum = search rules in read_back check_of.held-held.result.sum f.sfits) ∙ ap (λ (k : Held). k.sum) check_of.held-held.ensures
+  sum : to_z w64 (of_z w64 c.held-held.result.sum) ≡ sum_of c.args.bytes.now
+  sum =
+      let f : SFits w64 c.held-held.result.sum = search rules in
+      read_back c.held-held.result.sum f.sfits ∙ ap (λ (k : Held). k.sum) c.held-held.ensures
 
 returns : tie.Need-returns
 returns c =
-    let a = (check_start c).args in
+    let a = c.args in
     search (c.check_sheet.ensures
     ∙ (λ i. check_answer (head c i) (listed c i) (read c i) (set c i) (sum c i) a.claims.now a.claimed))
 

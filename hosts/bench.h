@@ -56,9 +56,10 @@
  *
  * Calls may be made from several threads at once, each with its own buffers to write: the library keeps nothing between calls.
  * Of the stack, which no proof speaks of, each takes at most this, in KB of 1,000 bytes, with what is passed to it:
- *   122 KB | bench_judge, bench_grouped
- *    82 KB | bench_company, bench_opposition
+ *   122 KB | bench_grouped
+ *    82 KB | bench_judge
  *    72 KB | bench_uncertainty_of
+ *    62 KB | bench_company, bench_opposition
  *    46 KB | bench_listing, bench_listing_second, bench_certificate, bench_certificate_second, bench_check_file, bench_check_second, bench_pool
  *    41 KB | bench_values, bench_value_of, bench_published, bench_deviation_of, bench_q, bench_spread, bench_check_parts
  *    33 KB | bench_practice_file

@@ -1,5 +1,6 @@
 -- The laws of whole numbers, of ranges and of buffers that the other crates' proofs stand on.
 pub mod Tests
+pub mod Searching
 pub mod Ring
 pub mod Solver
 pub mod Order

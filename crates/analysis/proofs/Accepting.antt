@@ -19,7 +19,6 @@ use Rattle.algebra.proofs.Order.{pos_inj, comb₁}
 use Rattle.algebra.proofs.Bounds.{sum-squares}
 use Rattle.algebra.proofs.Sums.{sum_cong}
 use Rattle.records.specs.declared.Head.{Head}
-use Rattle.records.specs.declared.Verdict.{Verdict}
 use Rattle.records.specs.declared.Parameters.{Parameters}
 use Rattle.meaning.specs.Design.{objects, blocks, balanced, parameters_of}
 use Rattle.meaning.specs.Analysis.{
@@ -40,7 +39,7 @@ use Rattle.meaning.specs.Analysis.{
   spread_hundredths_of,
 }
 use Rattle.meaning.specs.Publishing.{spread_of}
-use Rattle.meaning.specs.Refusals.{◌⨾◌, accepted, refused, sizes, clean, in_balance, restraint, in_reach, room}
+use Rattle.meaning.specs.Refusals.{Verdict, ◌⨾◌, accepted, refused, sizes, clean, in_balance, restraint, in_reach, room}
 use Rattle.meaning.specs.Calls.{slices, contents, job_verdict, spreading_of, rooms, solved_under}
 use Rattle.laws.specs.Fits.{Fits}
 use Rattle.laws.proofs.Chains.{Sound, Readings, Job, opened, accepts, goes_on, test_yes, accepted-last, job}

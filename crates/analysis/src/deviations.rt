@@ -8,8 +8,8 @@ ghost use Rattle.analysis.specs.Worked.{total_at, squares_in, Held, fitted_in, d
 
 use crate::spread::worked;
 use crate::values::set_sum;
-use arithmetic::{add_square, size};
-use records::{BlockDeviation, Head, Verdict, Wide};
+use arithmetic::add_square;
+use records::{BlockDeviation, Head, Refusal, Verdict, Wide};
 use verdicts::{is_refused, no_deviation};
 use weighing::blocks_refusal;
 
@@ -27,11 +27,15 @@ pub fn deviation_of(head: Head, blocks: &[u8], readings: &[i32], block: usize) -
     ensures { result ≡ deviation_answer head blocks.now readings.now block }
 {
     let tested = blocks_refusal(head, blocks, readings);
+    // A refusal hands back zeros beside its verdict.
     if is_refused(tested) {
         return no_deviation(tested);
     }
     if head.m * head.n <= block {
-        return no_deviation(Verdict::Refused(5, block));
+        return no_deviation(Err(Refusal {
+            number: 5,
+            place: block,
+        }));
     }
     let mut deviations = [0i64; 1300];
     let solved = worked(head, blocks, readings, &mut deviations);
@@ -41,7 +45,7 @@ pub fn deviation_of(head: Head, blocks: &[u8], readings: &[i32], block: usize) -
     }
     let numerator = deviations[block];
     BlockDeviation {
-        verdict: Verdict::Accepted,
+        verdict: Ok(()),
         numerator,
         denominator: solved.spreading.vbeta,
     }
@@ -78,12 +82,11 @@ pub(crate) fn fill_deviations(
 {
     let scale = vbeta as i64;
     let mut squares = Wide { high: 0, low: 0 };
-    let mut k = 0;
-    while k < b {
-        let y = readings[k] as i64;
-        squares = add_square(squares, size(y));
+    // A block has two words, one reading and one deviation, so the loop goes by its number.
+    for k in 0..b {
+        let y = i64::from(readings[k]);
+        squares = add_square(squares, y.unsigned_abs());
         deviations[k] = scale * y - fitted(words, totals, k);
-        k += 1;
     }
     squares
 }

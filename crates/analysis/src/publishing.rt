@@ -1,17 +1,15 @@
 // The published hundredths. A member of the restraint set takes the hundredths at or below its value, and what they leave of 100·M is given out one
 // each, to the largest parts first and the lowest object among equals; any other object takes the nearest. Parts are whole numbers over one denominator.
-ghost use Rattle.std.specs.Prelude.{◌≡◌, cond, ◌&&◌, ◌||◌, ◌/◌, ◌≤◌, ◌<◌, eqb, ltb, length};
-ghost use Rattle.algebra.specs.Buffers.{over};
+ghost use Rattle.std.specs.Prelude.{◌≡◌, cond, ◌&&◌, ◌||◌, ◌/◌, ◌<◌, eqb, ltb, length};
 ghost use Rattle.meaning.specs.Analysis.{member};
 ghost use Rattle.meaning.specs.Publishing.{rank};
 ghost use Rattle.meaning.specs.Calls.{values_verdict, published_after};
-ghost use Rattle.analysis.specs.Column.{numerator_at, part_at, parts_of, Small, parts_in, hundredths_by, column_of};
+ghost use Rattle.analysis.specs.Column.{part_at, parts_of, Small, parts_in, hundredths_by, column_of};
 
 use crate::whole::analyse;
 use arithmetic::{hundredths, hundredths_below, hundredths_part};
 use design::objects;
-use records::{Head, Verdict};
-use verdicts::is_refused;
+use records::{Head, Refusal, Verdict};
 use words::holds;
 
 // The published hundredths of all objects of a job, into lent room.
@@ -39,17 +37,17 @@ pub fn published(
         &mut values,
         &mut deviations,
     );
-    let verdict = solved.verdict;
-    if is_refused(verdict) {
-        return verdict;
-    }
+    solved.verdict?;
     let v = objects(head);
     if hundredths.len() < v {
-        return Verdict::Refused(10, 0);
+        return Err(Refusal {
+            number: 10,
+            place: 0,
+        });
     }
     let column = column(&values, solved.denominator, set);
-    lay_column(&column, v, hundredths);
-    Verdict::Accepted
+    hundredths[..v].copy_from_slice(&column[..v]);
+    Ok(())
 }
 
 // The hundredths of 50 objects from their numerators, whole. Every published number is made here.
@@ -59,12 +57,9 @@ pub fn column(numerators: &[i64; 50], denominator: u64, set: u64) -> [i64; 50]
     let parts = parts_of(numerators, denominator);
     let shared = shared_out(&parts, denominator, set);
     let mut hundredths = [0i64; 50];
-    let mut i = 0;
-    while i < 50 {
-        let numerator = numerators[i];
+    for (i, &numerator) in numerators.iter().enumerate() {
         let own = rank_of(&parts, set, i);
         hundredths[i] = hundredths_at(numerator, denominator, set, i, own, shared);
-        i += 1;
     }
     hundredths
 }
@@ -81,13 +76,10 @@ fn hundredths_at(
     ensures { result ≡ hundredths_by numerator denominator (member set object) own shared }
 {
     if holds(set, object) == 1 {
-        let below = hundredths_below(numerator, denominator);
-        if own < shared {
-            return below + 1;
-        }
-        return below;
+        hundredths_below(numerator, denominator) + i64::from(own < shared)
+    } else {
+        hundredths(numerator, denominator)
     }
-    hundredths(numerator, denominator)
 }
 
 // How far each object is above its hundredths, in parts of the denominator.
@@ -95,10 +87,8 @@ fn parts_of(numerators: &[i64; 50], denominator: u64) -> [u64; 50]
     ensures { result ≡ parts_of numerators.now denominator }
 {
     let mut parts = [0u64; 50];
-    let mut i = 0;
-    while i < 50 {
-        parts[i] = hundredths_part(numerators[i], denominator);
-        i += 1;
+    for (i, &numerator) in numerators.iter().enumerate() {
+        parts[i] = hundredths_part(numerator, denominator);
     }
     parts
 }
@@ -120,11 +110,8 @@ fn parts_sum(parts: &[u64; 50], set: u64) -> u64
     ensures { result ≡ parts_in (part_at parts.now) set }
 {
     let mut sum = 0;
-    let mut i = 0;
-    while i < 50 {
-        let part = parts[i];
+    for (i, &part) in parts.iter().enumerate() {
         sum += holds(set, i) * part;
-        i += 1;
     }
     sum
 }
@@ -136,11 +123,8 @@ fn rank_of(parts: &[u64; 50], set: u64, object: usize) -> u64
 {
     let own = parts[object];
     let mut count = 0;
-    let mut i = 0;
-    while i < 50 {
-        let part = parts[i];
+    for (i, &part) in parts.iter().enumerate() {
         count += holds(set, i) * goes_before(part, i, own, object);
-        i += 1;
     }
     count
 }
@@ -149,26 +133,5 @@ fn rank_of(parts: &[u64; 50], set: u64, object: usize) -> u64
 fn goes_before(part: u64, i: usize, own: u64, object: usize) -> u64
     ensures { result ≡ cond (ltb own part || eqb part own && ltb i object) 1 0 }
 {
-    if own < part {
-        return 1;
-    }
-    if part < own {
-        return 0;
-    }
-    if i < object {
-        return 1;
-    }
-    0
-}
-
-// The first v hundredths of a column, laid into lent room.
-fn lay_column(column: &[i64; 50], v: usize, hundredths: &mut [i64])
-    requires { (v ≤ 50) × (v ≤ length hundredths.old) }
-    ensures { hundredths.new ≡ over v (numerator_at column.now) hundredths.old }
-{
-    let mut i = 0;
-    while i < v {
-        hundredths[i] = column[i];
-        i += 1;
-    }
+    u64::from(own < part || part == own && i < object)
 }

@@ -4,10 +4,9 @@ ghost use Rattle.meaning.specs.Sheet.{check_answer};
 
 use crate::publishing::column;
 use crate::whole::analyse;
-use claims::{compare, under};
+use claims::compare;
 use design::objects;
-use records::{Checked, Head, Spread};
-use verdicts::is_refused;
+use records::{Checked, Head, Refusal, Spread};
 
 // Checks a sheet: the tests of the whole job, one claim for each object, then every claim and the spread.
 pub fn check_sheet(
@@ -17,7 +16,7 @@ pub fn check_sheet(
     set: u64,
     sum: i64,
     claims: &[i64],
-    claimed: Spread,
+    claimed: Option<Spread>,
 ) -> Checked
     ensures { result ≡ check_answer head blocks.now readings.now set sum claims.now claimed }
 {
@@ -34,16 +33,14 @@ pub fn check_sheet(
         &mut values,
         &mut deviations,
     );
-    let verdict = solved.verdict;
-    if is_refused(verdict) {
-        return under(verdict, Checked::Agrees);
-    }
+    solved.verdict?;
     let v = objects(head);
     if claims.len() != v {
-        return Checked::Unchecked(15, 0);
+        return Err(Refusal {
+            number: 15,
+            place: 0,
+        });
     }
     let column = column(&values, solved.denominator, set);
-    let spreading = solved.spreading;
-    let spread = spreading.spread;
-    compare(&column, spread, claims, claimed)
+    compare(&column, solved.spreading.spread, claims, claimed)
 }

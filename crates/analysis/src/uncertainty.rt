@@ -8,7 +8,7 @@ ghost use Rattle.analysis.specs.Worked.{factor_in};
 use crate::spread::spread;
 use crate::values::{factor_of, value_of};
 use arithmetic::uncertainty_from;
-use records::{Head, ObjectUncertainty, Spreading, Uncertainty, Verdict};
+use records::{Head, ObjectUncertainty, Spreading, Uncertainty};
 use verdicts::is_refused;
 
 // The standard uncertainty of one object. What is refused is what is refused of its value.
@@ -24,10 +24,11 @@ pub fn uncertainty_of(
 {
     let valued = value_of(head, blocks, readings, set, sum, object);
     let verdict = valued.verdict;
+    // A refusal hands back zeros beside its verdict.
     if is_refused(verdict) {
         return ObjectUncertainty {
             verdict,
-            uncertainty: Uncertainty::Unstated,
+            uncertainty: None,
         };
     }
     let value = valued.value;
@@ -42,7 +43,7 @@ pub fn uncertainty_of(
         value.factor,
     );
     ObjectUncertainty {
-        verdict: Verdict::Accepted,
+        verdict: Ok(()),
         uncertainty,
     }
 }
@@ -53,7 +54,7 @@ pub fn uncertainty_in(
     denominator: u64,
     set: u64,
     object: usize,
-) -> Uncertainty
+) -> Option<Uncertainty>
     ensures { result ≡ uncertainty_in (value spreading.q) denominator spreading.vbeta spreading.freedom (factor_in set object) }
 {
     let q = spreading.q;

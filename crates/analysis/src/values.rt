@@ -10,7 +10,7 @@ use crate::publishing::column;
 use crate::whole::analyse;
 use arithmetic::value_from;
 use design::objects;
-use records::{Head, ObjectValue, Verdict};
+use records::{Head, ObjectValue, Refusal, Verdict};
 use verdicts::{is_refused, no_value};
 use weighing::blocks_refusal;
 use words::{holds, lowest, ones, without_lowest};
@@ -54,11 +54,15 @@ pub fn value_of(
     ensures { result ≡ value_answer head blocks.now readings.now set sum object }
 {
     let tested = blocks_refusal(head, blocks, readings);
+    // A refusal hands back zeros beside its verdict.
     if is_refused(tested) {
         return no_value(tested);
     }
     if objects(head) <= object {
-        return no_value(Verdict::Refused(5, object));
+        return no_value(Err(Refusal {
+            number: 5,
+            place: object,
+        }));
     }
     let mut words = [0u64; 2600];
     let mut values = [0i64; 50];
@@ -81,7 +85,7 @@ pub fn value_of(
     let factor = factor_of(set, object);
     let value = value_from(values[object], solved.denominator, column[object], factor);
     ObjectValue {
-        verdict: Verdict::Accepted,
+        verdict: Ok(()),
         value,
     }
 }
@@ -116,11 +120,9 @@ pub(crate) fn fill_values(
     let members = t as i64;
     let over_set = set_sum(totals, set);
     let lifted = vbeta as i64 * sum;
-    let mut i = 0;
-    while i < v {
-        let own = totals[i];
-        values[i] = members * own - over_set + lifted;
-        i += 1;
+    // A total is read and a value written at one place, so the loop goes by the place.
+    for i in 0..v {
+        values[i] = members * totals[i] - over_set + lifted;
     }
     t * vbeta
 }

@@ -11,7 +11,7 @@ use crate::spread::measure;
 use crate::values::fill_values;
 use design::{develop, objects};
 use judging::judged_job;
-use records::{Head, Parameters, Solved, Verdict};
+use records::{Head, Parameters, Refusal, Solved, Verdict};
 use verdicts::{is_refused, no_solution};
 use weighing::weigh;
 
@@ -37,6 +37,7 @@ pub fn analyse(
 {
     let judged = judged_job(head, blocks, readings, set, sum);
     let verdict = judged.verdict;
+    // A refusal hands back zeros beside its verdict.
     if is_refused(verdict) {
         return no_solution(verdict);
     }
@@ -44,7 +45,8 @@ pub fn analyse(
     if is_refused(roomy) {
         return no_solution(roomy);
     }
-    develop(head, blocks, words);
+    // The job's tests and the room's passed, so it accepts: its answer tells nothing more, and `?` cannot serve where a record is handed back.
+    let _ = develop(head, blocks, words);
     let parameters = judged.parameters;
     work(
         head, readings, set, sum, parameters, words, values, deviations,
@@ -59,15 +61,24 @@ fn rooms_refusal(head: Head, words: usize, values: usize, deviations: usize) -> 
     let v = objects(head);
     let b = head.m * head.n;
     if words < 2 * b {
-        return Verdict::Refused(10, 0);
+        return Err(Refusal {
+            number: 10,
+            place: 0,
+        });
     }
     if values < v {
-        return Verdict::Refused(10, 0);
+        return Err(Refusal {
+            number: 10,
+            place: 0,
+        });
     }
     if deviations < b {
-        return Verdict::Refused(10, 0);
+        return Err(Refusal {
+            number: 10,
+            place: 0,
+        });
     }
-    Verdict::Accepted
+    Ok(())
 }
 
 // Works a job out from its words, into rooms that are long enough.
@@ -96,7 +107,7 @@ fn work(
     let squared_readings = fill_deviations(words, readings, &totals, b, vbeta, deviations);
     let spreading = measure(head, vbeta, squared_readings, squared_totals.sum);
     Solved {
-        verdict: Verdict::Accepted,
+        verdict: Ok(()),
         parameters,
         denominator,
         spreading,

@@ -1,5 +1,6 @@
 -- The call that makes a grouped set, with too few slots and with enough. Every test for room refuses by 10 at 0, so with too few slots the tests alone
 -- count, which a call on a room of one word tells. Assumes nothing.
+use Rattle.std.proofs.Common.{Ok, Err}
 use Prim.Native.Nat.{ℕ, ◌*◌, ◌≤◌, ◌<◌}
 use mathlib.Core.Path.{◌≡◌, refl, sym, ap, ◌∙◌}
 use mathlib.Core.List.{List}
@@ -10,10 +11,8 @@ use mathlib.Core.Bool.{◌&&◌}
 use lib.Dec.{eqb, leb}
 use lib.ListN.{length}
 use Rattle.records.specs.declared.Head.{Head}
-use Rattle.records.specs.declared.Verdict.{Verdict}
-use Rattle.records.specs.declared.Verdict.TheVariants.{Accepted, Refused}
 use Rattle.meaning.specs.Design.{objects, blocks, list_length, sized, balanced}
-use Rattle.meaning.specs.Refusals.{accepted, refused, ◌⨾◌, offender, sizes, length_is, clean, in_balance, room}
+use Rattle.meaning.specs.Refusals.{Verdict, accepted, refused, ◌⨾◌, offender, sizes, length_is, clean, in_balance, room}
 use Rattle.meaning.specs.Calls.{given, written}
 use Rattle.meaning.specs.Groups.{
   even_groups,
@@ -57,8 +56,8 @@ module _ (h : Head) (d : List ℕ) (g : ℕ) where
   base_short len = by tests refl
     where
       by : (t : Verdict) → tests ≡ t → t ⨾ room len (2 * blocks h) ⨾ refused 10 0 ≡ t ⨾ room 1 (2 * blocks h)
-      by Accepted e = one-ten (leb (2 * blocks h) len) ∙ sym (test_no (leb (2 * blocks h) 1) 10 0 (lt-leb (2 * blocks h) 1 (words-some e)))
-      by (Refused k at) e = refl
+      by (Ok done) e = one-ten (leb (2 * blocks h) len) ∙ sym (test_no (leb (2 * blocks h) 1) 10 0 (lt-leb (2 * blocks h) 1 (words-some e)))
+      by (Err why) e = refl
 
   module _ (words answer : List ℕ) where
     -- too few slots

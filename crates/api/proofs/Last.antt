@@ -4,6 +4,7 @@
 --     short                  a chain whose last tests are 10
 --     ..-short, ..-enough    of each answer with rooms, with too few slots and with enough: a job worked out, a file written, a listing
 -- Assumes nothing.
+use Rattle.std.proofs.Common.{Ok, Err}
 use Prim.Native.Nat.{ℕ, ◌*◌, ◌<◌, ◌≤◌}
 use mathlib.Core.Path.{◌≡◌, refl, sym, ap, ap₂, ◌∙◌}
 use mathlib.Core.Bool.{Bool, true, false, false≢true}
@@ -16,10 +17,8 @@ use Rattle.records.specs.declared.Head.{Head}
 use Rattle.records.specs.declared.JobWritten.{JobWritten}
 use Rattle.records.specs.declared.Listed.{Listed}
 use Rattle.records.specs.declared.Solved.{Solved}
-use Rattle.records.specs.declared.Verdict.{Verdict}
-use Rattle.records.specs.declared.Verdict.TheVariants.{Accepted, Refused}
 use Rattle.meaning.specs.Design.{objects, blocks}
-use Rattle.meaning.specs.Refusals.{◌⨾◌, refused, accepted, test, room}
+use Rattle.meaning.specs.Refusals.{Verdict, ◌⨾◌, refused, accepted, test, room}
 use Rattle.meaning.specs.Calls.{given, rooms}
 use Rattle.laws.proofs.Chains.{accepted-last, test_yes, test_no}
 use Rattle.verdicts.proofs.Told.{accepting}
@@ -36,18 +35,18 @@ pub stays : {A : Type 0} (call tests : Verdict) (answer lent : A) → call ≡ t
 stays call tests answer lent e = sym (ap (λ (v : Verdict). given v answer lent) e ∙ by tests)
   where
     by : (v : Verdict) → given (v ⨾ ten) answer lent ≡ lent
-    by Accepted = refl
-    by (Refused k at) = refl
+    by (Ok done) = refl
+    by (Err why) = refl
 
 -- what is given twice under one verdict is given once
 pub given-twice : {A : Type 0} (v : Verdict) (answer lent : A) → given v answer lent ≡ given v (given v answer lent) lent
-given-twice Accepted answer lent = refl
-given-twice (Refused k at) answer lent = refl
+given-twice (Ok done) answer lent = refl
+given-twice (Err why) answer lent = refl
 
 -- a chain is read from either end
 joined : (a b c : Verdict) → a ⨾ b ⨾ c ≡ a ⨾ (b ⨾ c)
-joined Accepted b c = refl
-joined (Refused k at) b c = refl
+joined (Ok done) b c = refl
+joined (Err why) b c = refl
 
 -- before 10 a test for room makes no difference
 pub one-ten : (t : Bool) → test t 10 0 ⨾ ten ≡ ten
@@ -113,8 +112,8 @@ written_enough w answer l = one_slot w.verdict answer l
 
 -- where the file has more than one byte, its tests in one byte of room are refused as without a slot
 pub one_byte : (tests : Verdict) (want : ℕ) → (tests ≡ accepted → 1 < want) → tests ⨾ room 1 want ≡ tests ⨾ ten
-one_byte Accepted want l = test_no (leb want 1) 10 0 (lt-leb want 1 (l refl))
-one_byte (Refused k at) want l = refl
+one_byte (Ok done) want l = test_no (leb want 1) 10 0 (lt-leb want 1 (l refl))
+one_byte (Err why) want l = refl
 
 pub listed-short : (l : Listed) (answer : List ℕ) (len want : ℕ) → l.verdict ≡ room len want → length answer < 1 → listed_call l answer ≡ ten
 unfolding listed_call

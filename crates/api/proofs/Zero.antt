@@ -1,6 +1,7 @@
 -- Every call returns 0 exactly where it accepts: its verdict is a chain of tests, and each test of the request's table has a number from 1 on.
 -- `told-zero` of crates/slots says it of every verdict that is `Numbered`, which is shown here of the verdict of every exported call.
 -- Assumes nothing.
+use Rattle.std.proofs.Common.{Ok, Err}
 use Prim.Native.Nat.{ℕ, zero, suc, ◌+◌, ◌*◌, ◌^◌}
 use mathlib.Core.Bool.{Bool, true, false, cond, not, ◌&&◌, ◌||◌}
 use mathlib.Core.Path.{refl}
@@ -10,11 +11,9 @@ use lib.IntN.{ℤ, nat_abs}
 use lib.Ieee.{Float}
 use lib.ListN.{get_or, length}
 use Rattle.records.specs.declared.Head.{Head}
-use Rattle.records.specs.declared.Verdict.{Verdict}
-use Rattle.records.specs.declared.Verdict.TheVariants.{Accepted, Refused}
 use Rattle.meaning.specs.Design.{objects, blocks, list_length, sized, balanced}
 use Rattle.meaning.specs.Analysis.{members}
-use Rattle.meaning.specs.Refusals.{◌⨾◌, sum_limit, offender, far_reading, sizes, length_is, clean, exists, in_balance, restraint, in_reach, room}
+use Rattle.meaning.specs.Refusals.{Verdict, ◌⨾◌, sum_limit, offender, far_reading, sizes, length_is, clean, exists, in_balance, restraint, in_reach, room}
 use Rattle.meaning.specs.Calls.{
   design_verdict,
   develop_verdict,
@@ -257,8 +256,8 @@ module _ (s : List ℕ) where
 
   -- a field says what its verdict is
   says_numbered : (v : Verdict) (at len : ℕ) → Numbered v → Numbered (field_says (field_under v at len))
-  says_numbered Accepted at len n = n
-  says_numbered (Refused k place) at len n = n
+  says_numbered (Ok done) at len n = n
+  says_numbered (Err why) at len n = n
 
   pub field_call_numbered : (at tag len : ℕ) (answer : List ℕ) → Numbered (field_call (field_at s at tag len) at answer)
   unfolding field_call field_at
@@ -276,8 +275,8 @@ module _ (s : List ℕ) where
 
   -- a refusal keeps its number where its place is moved
   placed_numbered : (v : Verdict) → Numbered v → Numbered (placed s v)
-  placed_numbered Accepted n = n
-  placed_numbered (Refused k i) n = record { unless = λ e. absurd (refused_is_not k i (n.unless e)) }
+  placed_numbered (Ok done) n = n
+  placed_numbered (Err why) n = record { unless = λ e. absurd (refused_is_not why.number why.place (n.unless e)) }
 
   pub file_numbered : Numbered (read_verdict s)
   unfolding read_verdict
@@ -306,8 +305,8 @@ module _ (s : List ℕ) where
 
 -- a refusal keeps its number where it is moved on
 moved_numbered : (v : Verdict) → Numbered v → Numbered (moved_on v)
-moved_numbered Accepted n = n
-moved_numbered (Refused k i) n = record { unless = λ e. absurd (refused_is_not k i (n.unless e)) }
+moved_numbered (Ok done) n = n
+moved_numbered (Err why) n = record { unless = λ e. absurd (refused_is_not why.number why.place (n.unless e)) }
 
 -- whichever of two it is
 either_numbered : (b : Bool) {u v : Verdict} → Numbered u → Numbered v → Numbered (cond b u v)

@@ -5,13 +5,13 @@ use Rattle.records.specs.declared.Head.{Head}
 use Rattle.records.specs.declared.JobWritten.{JobWritten}
 use Rattle.records.specs.declared.Listed.{Listed}
 use Rattle.records.specs.declared.Solved.{Solved}
-use Rattle.records.specs.declared.Verdict.{Verdict}
 use Rattle.meaning.specs.Calls.{given, solved_under, words_under, values_under, deviations_under}
 use Rattle.meaning.specs.File.{head_of, blocks_of, readings_of, set_of, sum_of, solve_verdict}
 use Rattle.meaning.specs.Writing.{written_answer, written_after}
 use Rattle.meaning.specs.Text.{listed_answer, listed_after}
 use Rattle.meaning.specs.Certificate.{certified_answer, certified_after}
 use Rattle.slots.specs.Answers.{solved_call, written_call, listed_call}
+use Rattle.meaning.specs.Refusals.{Verdict}
 
 -- a file worked out
 module _ (s words : List ℕ) (values deviations : List ℤ) where

@@ -3,11 +3,11 @@
 use Rattle.std.specs.Prelude.{ℕ, ◌*◌, List, length}
 use Rattle.records.specs.declared.Head.{Head}
 use Rattle.records.specs.declared.GroupedSet.{GroupedSet}
-use Rattle.records.specs.declared.Verdict.{Verdict}
 use Rattle.meaning.specs.Design.{blocks}
 use Rattle.meaning.specs.Calls.{written}
 use Rattle.meaning.specs.Groups.{base_answer, grouped_word_at}
 use Rattle.slots.specs.Groups.{group_set_call}
+use Rattle.meaning.specs.Refusals.{Verdict}
 
 module _ (h : Head) (d : List ℕ) (g : ℕ) (words : List ℕ) where
   -- what the direct call answers

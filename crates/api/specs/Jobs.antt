@@ -3,9 +3,9 @@
 use Rattle.std.specs.Prelude.{ℕ, List, length, ℤ, Float}
 use Rattle.records.specs.declared.Head.{Head}
 use Rattle.records.specs.declared.Solved.{Solved}
-use Rattle.records.specs.declared.Verdict.{Verdict}
 use Rattle.meaning.specs.Calls.{analyse_verdict, solved_under, words_under, values_under, deviations_under}
 use Rattle.slots.specs.Answers.{solved_call}
+use Rattle.meaning.specs.Refusals.{Verdict}
 
 module _ (h : Head) (d : List ℕ) (y : List ℤ) (w : ℕ) (M : ℤ) (words : List ℕ) (values deviations : List ℤ) where
   -- what the direct call answers

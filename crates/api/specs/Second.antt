@@ -5,13 +5,13 @@ use Rattle.records.specs.declared.Head.{Head}
 use Rattle.records.specs.declared.JobWritten.{JobWritten}
 use Rattle.records.specs.declared.Listed.{Listed}
 use Rattle.records.specs.declared.Solved.{Solved}
-use Rattle.records.specs.declared.Verdict.{Verdict}
 use Rattle.meaning.specs.Calls.{given, words_under, values_under, deviations_under}
 use Rattle.meaning.specs.File.{head_of, blocks_of, readings_of, set_of, sum_of}
 use Rattle.meaning.specs.Edition2.{four_of, solve_answer2, listed_answer2, listed_after2, written_answer2, written_after2}
 use Rattle.meaning.specs.Edition2.{to_second_answer, to_second_after, to_first_answer, to_first_after}
 use Rattle.meaning.specs.Certificate.{certified_answer2, certified_after2}
 use Rattle.slots.specs.Answers.{solved_call, written_call, listed_call}
+use Rattle.meaning.specs.Refusals.{Verdict}
 
 -- a file worked out
 module _ (s words : List ℕ) (values deviations : List ℤ) where

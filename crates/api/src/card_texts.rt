@@ -5,7 +5,7 @@ ghost use Rattle.slots.specs.Answers.{listed_call, listed_laid};
 ghost use Rattle.api.specs.Cards.{file_card, card_put, second_card, second_card_put};
 
 use cards::{card_of, card_of_second};
-use records::Verdict;
+use records::Refusal;
 use slots::{lay_listed, told};
 
 // Writes the card of a job file to the front of `out`. Without a slot nothing is written.
@@ -16,7 +16,10 @@ pub extern "C" fn bench_card(bytes: &[u8], out: &mut [u8], answer: &mut [u64]) -
     ensures answer_after { answer.new ≡ listed_laid (file_card bytes.now out.old) answer.old }
 {
     if answer.len() < 1 {
-        return told(Verdict::Refused(10, 0));
+        return told(Err(Refusal {
+            number: 10,
+            place: 0,
+        }));
     }
     lay_listed(card_of(bytes, out), answer)
 }
@@ -29,7 +32,10 @@ pub extern "C" fn bench_card_second(bytes: &[u8], out: &mut [u8], answer: &mut [
     ensures answer_after { answer.new ≡ listed_laid (second_card bytes.now out.old) answer.old }
 {
     if answer.len() == 0 {
-        return told(Verdict::Refused(10, 0));
+        return told(Err(Refusal {
+            number: 10,
+            place: 0,
+        }));
     }
     lay_listed(card_of_second(bytes, out), answer)
 }

@@ -6,7 +6,7 @@ ghost use Rattle.api.specs.Files.{file_certified, certificate_text};
 ghost use Rattle.api.specs.Second.{second_certified, second_certificate};
 
 use listing::{certificate, certificate_second};
-use records::Verdict;
+use records::Refusal;
 use slots::{lay_listed, told};
 
 // Writes the certificate of a job file to the front of `out`. Without a slot nothing is written.
@@ -17,7 +17,10 @@ pub extern "C" fn bench_certificate(bytes: &[u8], out: &mut [u8], answer: &mut [
     ensures answer_after { answer.new ≡ listed_laid (file_certified bytes.now out.old) answer.old }
 {
     if answer.len() < 1 {
-        return told(Verdict::Refused(10, 0));
+        return told(Err(Refusal {
+            number: 10,
+            place: 0,
+        }));
     }
     lay_listed(certificate(bytes, out), answer)
 }
@@ -30,7 +33,10 @@ pub extern "C" fn bench_certificate_second(bytes: &[u8], out: &mut [u8], answer:
     ensures answer_after { answer.new ≡ listed_laid (second_certified bytes.now out.old) answer.old }
 {
     if answer.len() < 1 {
-        return told(Verdict::Refused(10, 0));
+        return told(Err(Refusal {
+            number: 10,
+            place: 0,
+        }));
     }
     lay_listed(certificate_second(bytes, out), answer)
 }

@@ -80,11 +80,14 @@ pub extern "C" fn bench_check_second(
 }
 
 // A claimed spread: none where there is none, else the f64 with its degrees of freedom.
-fn claimed_from(has: u64, spread: f64, freedom: u64) -> Spread
+fn claimed_from(has: u64, spread: f64, freedom: u64) -> Option<Spread>
     ensures { result ≡ claimed_from has spread freedom }
 {
     if has == 0 {
-        return Spread::None;
+        return None;
     }
-    Spread::Of(spread, freedom)
+    Some(Spread {
+        value: spread,
+        freedom,
+    })
 }

@@ -11,7 +11,7 @@ use fields::field_at;
 use job::{read, solve};
 use judging::refusal;
 use listing::listing;
-use records::{Head, Verdict};
+use records::{Head, Refusal};
 use slots::{
     lay_field, lay_listed, lay_read, lay_solved, lay_written, solved_room, told, with_room,
 };
@@ -67,6 +67,7 @@ pub extern "C" fn bench_solve(
         answer.old real.old }
 {
     let slotted = solved_room(answer.len(), real.len());
+    // A refusal is told as a number, and nothing is laid.
     if is_refused(slotted) {
         let found = read(bytes);
         let tested = found.verdict;
@@ -112,7 +113,10 @@ pub extern "C" fn bench_listing(bytes: &[u8], out: &mut [u8], answer: &mut [u64]
     ensures answer_after { answer.new ≡ listed_laid (file_listed bytes.now out.old) answer.old }
 {
     if answer.len() < 1 {
-        return told(Verdict::Refused(10, 0));
+        return told(Err(Refusal {
+            number: 10,
+            place: 0,
+        }));
     }
     lay_listed(listing(bytes, out), answer)
 }

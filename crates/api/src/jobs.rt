@@ -173,6 +173,7 @@ pub extern "C" fn bench_analyse(
 {
     let head = Head { n, flag, p, m };
     let slotted = solved_room(answer.len(), real.len());
+    // A refusal is told as a number, and nothing is laid.
     if is_refused(slotted) {
         let tested = refusal(head, blocks, readings, set, sum);
         return told(with_room(tested, 0, 1));

@@ -9,7 +9,7 @@ ghost use Rattle.api.specs.Second.{moved_to_second, to_second, moved_to_first, t
 
 use job::{read_second, solve_second, to_first, to_second};
 use listing::listing_second;
-use records::{Head, Verdict};
+use records::{Head, Refusal};
 use slots::{lay_listed, lay_second, lay_solved, lay_written, solved_room, told, with_room};
 use verdicts::is_refused;
 use writing::write_second;
@@ -48,6 +48,7 @@ pub extern "C" fn bench_solve_second(
         answer.old real.old }
 {
     let slotted = solved_room(answer.len(), real.len());
+    // A refusal is told as a number, and nothing is laid.
     if is_refused(slotted) {
         let found = read_second(bytes);
         let job = found.job;
@@ -132,7 +133,10 @@ pub extern "C" fn bench_listing_second(bytes: &[u8], out: &mut [u8], answer: &mu
     ensures answer_after { answer.new ≡ listed_laid (second_listed bytes.now out.old) answer.old }
 {
     if answer.len() < 1 {
-        return told(Verdict::Refused(10, 0));
+        return told(Err(Refusal {
+            number: 10,
+            place: 0,
+        }));
     }
     lay_listed(listing_second(bytes, out), answer)
 }

@@ -8,7 +8,7 @@ use lib.IntN.{ℤ, pos, nat_abs, ◌*ℤ◌}
 use lib.Ieee.{Float}
 use lib.Dec.{ltb}
 use borrow.Author.Tests.{ltb-true, lt-ltb, le-ltb}
-use Rattle.algebra.proofs.Tests.{and_left, and_right, and_both, and_fails_left, and_fails_right}
+use Rattle.algebra.proofs.Tests.{and_left, and_right, and_both, and_fails_left}
 use Rattle.meaning.specs.Publishing.{minus, floor, part, nearest_hundredths, float, Near}
 use Rattle.laws.proofs.Column.{part-less}
 use Rattle.laws.proofs.Rounding.{signed-size}
@@ -45,16 +45,6 @@ is-exact a d x = and_both (lt-ltb _ _ x.top) (and_both (lt-ltb _ _ x.above) (lt-
 pub top-large : (a : ℤ) (d : ℕ) → 2 ^ 53 ≤ nat_abs a → exact a d ≡ false
 unfolding exact
 top-large a d h = and_fails_left (ltb 0 d && ltb d (2 ^ 53)) (le-ltb _ _ h)
-
--- a denominator of 0 is refused
-pub bottom-zero : (a : ℤ) (d : ℕ) → d ≤ 0 → exact a d ≡ false
-unfolding exact
-bottom-zero a d h = and_fails_right (ltb (nat_abs a) (2 ^ 53)) (and_fails_left (ltb d (2 ^ 53)) (le-ltb _ _ h))
-
--- a denominator that is too large is refused
-pub bottom-large : (a : ℤ) (d : ℕ) → 2 ^ 53 ≤ d → exact a d ≡ false
-unfolding exact
-bottom-large a d h = and_fails_right (ltb (nat_abs a) (2 ^ 53)) (and_fails_right (ltb 0 d) (le-ltb _ _ h))
 
 -- ---- the answers inside the range
 

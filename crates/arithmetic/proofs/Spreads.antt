@@ -1,4 +1,5 @@
 -- The range as facts, and the hundredths inside it: the root of 10,000·Q by v·beta·f. Assumes nothing.
+use Rattle.std.proofs.Common.{Option}
 use mathlib.Core.Path.{◌≡◌, refl, ap, ◌∙◌}
 use mathlib.Core.Bool.{Bool, true, false, cond, ◌&&◌}
 use Prim.Native.Nat.{ℕ, zero, suc, ◌*◌, ◌/◌, ◌^◌, ◌≤◌, ◌<◌}
@@ -17,8 +18,7 @@ use Rattle.records.specs.declared.Head.{Head}
 use Rattle.records.specs.declared.Spreading.{Spreading}
 use Rattle.records.specs.declared.Wide.{Wide}
 use Rattle.records.specs.declared.Spread.{Spread}
-use Rattle.records.specs.declared.Spread.TheVariants.{Of}
-use Rattle.meaning.specs.Publishing.{spread_of}
+use Rattle.meaning.specs.Publishing.{spreads, spread_of}
 use Rattle.meaning.specs.Wide.{value, wide}
 use Rattle.arithmetic.specs.Quotient.{quotient_of}
 use Rattle.arithmetic.proofs.Exact.{quotient_is}
@@ -56,14 +56,6 @@ module _ (q s f : ℕ) where
   pub is-ranged : Ranged q s f → ranged q s f ≡ true
   unfolding ranged
   is-ranged r = and_both (lt-ltb _ _ r.q_most) (and_both (lt-ltb _ _ r.vbeta-some) (and_both (le-leb _ _ r.vbeta-most) (le-leb _ _ r.freedom-most)))
-
-  -- what cannot be in the range is refused
-  pub not-ranged : (Ranged q s f → ⊥) → ranged q s f ≡ false
-  not-ranged n = by (ranged q s f) refl
-    where
-      by : (t : Bool) → ranged q s f ≡ t → t ≡ false
-      by true e = absurd (n (ranged-is e))
-      by false e = refl
 
 -- v·beta·f is above 0 and fits
 pub product_range : (q s f : ℕ) → Ranged q s f → 0 < f → (0 < s * f) × (s * f < 2 ^ 32)
@@ -138,12 +130,12 @@ hundredths-small q s f = by (ranged q s f) refl
 -- ---- the enum
 
 -- with freedom it holds the hundredths over 100
-pub some-spread : (k f : ℕ) (x : Float) → k < 2 ^ 53 → 0 < f → x ≡ quotient_of (pos k) 100 → Of x f ≡ spread_of k f
+pub some-spread : (k f : ℕ) (x : Float) → k < 2 ^ 53 → 0 < f → x ≡ quotient_of (pos k) 100 → spreads x f ≡ spread_of k f
 some-spread k zero x h l e = absurd (omega arith)
-some-spread k (suc f) x h l e = ap (λ (y : Float). Of y (suc f)) (e ∙ quotient_is (pos k) 100 (record { top = h; above = omega arith; bottom = omega arith }))
+some-spread k (suc f) x h l e = ap (λ (y : Float). spreads y (suc f)) (e ∙ quotient_is (pos k) 100 (record { top = h; above = omega arith; bottom = omega arith }))
 
 -- a spread is made from its hundredths and its enum
-pub spreading_is : (q : Wide) (s f k : ℕ) (x : Spread) → k ≡ hundredths_from (value q) s f → x ≡ spread_of k f
+pub spreading_is : (q : Wide) (s f k : ℕ) (x : Option Spread) → k ≡ hundredths_from (value q) s f → x ≡ spread_of k f
     → ◌≡◌ {A = Spreading} (record { q = q; vbeta = s; freedom = f; hundredths = k; spread = x }) (spreading_from q s f)
 spreading_is q s f k x e g = λ j. record { q = q; vbeta = s; freedom = f; hundredths = e j; spread = (g ∙ ap (λ (k : ℕ). spread_of k f) e) j }
 

@@ -1,4 +1,5 @@
 -- The range of a standard uncertainty as facts, and its hundredths inside it: one more than the root of the quotient. Assumes nothing.
+use Rattle.std.proofs.Common.{Option, None}
 use mathlib.Core.Path.{◌≡◌, refl, sym, ap, ◌∙◌}
 use mathlib.Core.Bool.{Bool, true, false, cond, ◌&&◌}
 use mathlib.Core.List.{List}
@@ -23,10 +24,9 @@ use lib.IntN.{ℤ, pos}
 use Rattle.algebra.proofs.Tests.{and_left, and_right, and_both}
 use Rattle.records.specs.declared.Head.{Head}
 use Rattle.records.specs.declared.Uncertainty.{Uncertainty}
-use Rattle.records.specs.declared.Uncertainty.TheVariants.{Stated, Unstated}
 use Rattle.meaning.specs.Analysis.{root, qOf, vbeta, denominator_of, factor, freedom}
 use Rattle.meaning.specs.Publishing.{float}
-use Rattle.meaning.specs.Certificate.{least_over, uncertainty_hundredths, uncertainty_from}
+use Rattle.meaning.specs.Certificate.{states, least_over, uncertainty_hundredths, uncertainty_from}
 use Rattle.laws.proofs.Rounding.{root-largest}
 use Rattle.laws.proofs.Chains.{Job}
 use Rattle.laws.proofs.Analysis.{job-denominator}
@@ -66,19 +66,6 @@ module _ (q e s f c : ℕ) where
   unfolding stated
   is-stated r =
       and_both (and_both (lt-ltb _ _ r.tvb_some) (and_both (le-leb _ _ r.tvb_most) (le-leb _ _ r.factor-most))) (is-ranged q s f r.spread)
-
-  -- what cannot be in the range is refused
-  pub not-stated : (InRange q e s f c → ⊥) → stated q e s f c ≡ false
-  not-stated n = by (stated q e s f c) refl
-    where
-      by : (t : Bool) → stated q e s f c ≡ t → t ≡ false
-      by true t = absurd (n (stated-is t))
-      by false t = refl
-
-  -- where the first three are, the spread's range decides
-  pub stated-ranged : 0 < e → e ≤ 130000 → c ≤ 51 → stated q e s f c ≡ ranged q s f
-  unfolding stated
-  stated-ranged a b l = rw (lt-ltb 0 e a, le-leb e 130000 b, le-leb c 51 l)
 
   module _ (r : InRange q e s f c) where
     -- t·v·beta·v·beta is above 0 and fits half a word
@@ -177,16 +164,16 @@ hundredths-small q e s f c r l = by (q * (10000 * c)) refl
 -- ---- the enum
 
 -- with no freedom none is stated
-pub none_free : (q e s c : ℕ) → uncertainty_in q e s 0 c ≡ Unstated
+pub none_free : (q e s c : ℕ) → uncertainty_in q e s 0 c ≡ None
 unfolding uncertainty_in
 none_free q e s c = by (stated q e s 0 c)
   where
-    by : (t : Bool) → ◌≡◌ {A = Uncertainty} (cond t Unstated Unstated) Unstated
+    by : (t : Bool) → ◌≡◌ {A = Option Uncertainty} (cond t None None) None
     by true = refl
     by false = refl
 
 -- outside the range none is
-pub none_outside : (q e s f c : ℕ) → stated q e s f c ≡ false → uncertainty_in q e s f c ≡ Unstated
+pub none_outside : (q e s f c : ℕ) → stated q e s f c ≡ false → uncertainty_in q e s f c ≡ None
 unfolding uncertainty_in
 none_outside q e s f c t = rw t
 
@@ -197,12 +184,12 @@ uncertainty_is q e s f c r = rw (is-stated q e s f c r)
 
 -- with freedom it holds the hundredths, and these over 100
 pub some-stated : (q e s f c u : ℕ) (x : Float) → InRange q e s f c → 0 < f → u ≡ uncertainty_hundredths q e s f c → x ≡ quotient_of (pos u) 100
-    → Stated u x ≡ uncertainty_in q e s f c
+    → states u x ≡ uncertainty_in q e s f c
 some-stated q e s zero c u x r l g h = absurd (omega arith)
 some-stated q e s (suc f) c u x r l g h =
     let small : u < 2 ^ 53 = omega (arith, hundredths-small q e s (suc f) c r l) in
-    ap (λ (y : Float). Stated u y) (h ∙ quotient_is (pos u) 100 (record { top = small; above = omega arith; bottom = omega arith }))
-    ∙ ap (λ (n : ℕ). Stated n (float (pos n) 100)) g ∙ sym (uncertainty_is q e s (suc f) c r)
+    ap (λ (y : Float). states u y) (h ∙ quotient_is (pos u) 100 (record { top = small; above = omega arith; bottom = omega arith }))
+    ∙ ap (λ (n : ℕ). states n (float (pos n) 100)) g ∙ sym (uncertainty_is q e s (suc f) c r)
 
 -- ---- an accepted job
 

@@ -1,24 +1,12 @@
 -- Numbers of two words: what a number's words are, and back; a product by halves of 32 bits. Assumes nothing.
+use mathlib.Core.Bool.{Bool, true, false}
+use mir.Val.{bool_byte}
+use Rattle.std.specs.Bool.{FalseIff}
 use mathlib.Core.Path.{◌≡◌, sym, ap, ◌∙◌}
 use Prim.Native.Nat.{ℕ, ◌+◌, ◌*◌, ◌-◌, ◌/◌, ◌%◌, ◌^◌, ◌≤◌, ◌<◌}
-use native.Mathlib.Nat.{
-  div-lt_iff_lt-mul,
-  div-add-mod',
-  mod-eq_of_lt,
-  mod-lt,
-  mod-add-mod,
-  add-mod-mod,
-  add-mul-div_right,
-  add-mul-mod_self_right,
-  mul-le-mul,
-  mul-le-mul_right,
-  lt_of_not-le,
-  lt_trans,
-}
+use native.Mathlib.Nat.{div-lt_iff_lt-mul, div-add-mod', mod-eq_of_lt, mod-lt, mod-add-mod, add-mod-mod, add-mul-div_right, add-mul-mod_self_right, mul-le-mul, mul-le-mul_right, lt_trans}
 use native.Mathlib.Omega.{arith}
-use native.Mathlib.Decide.{dec_le}
-use borrow.Author.Tests.{le-leb, lt-leb}
-use lib.Dec.{leb, lit<}
+use lib.Dec.{lit<}
 use Rattle.records.specs.declared.Wide.{Wide}
 use Rattle.meaning.specs.Wide.{value, wide}
 
@@ -97,34 +85,6 @@ wide_add n m =
 pub fewer : (w h k l m : ℕ) → h < k → l < w → h * w + l < k * w + m
 fewer w h k l m f g = omega (arith, mul-le-mul_right w f)
 
--- so the high words decide
-pub high_decides : (x y : Wide) → x.high < y.high → x.low < 2 ^ 64 → value x < value y
-high_decides x y f g = fewer (2 ^ 64) x.high y.high x.low y.low f g
-
--- what is less, with less than a word over, has no more words
-pub no_fewer : (w h k l m : ℕ) → k * w + m < h * w + l → l < w → k ≤ h
-no_fewer w h k l m f g = by (dec_le k h)
-  where
-    by : Dec (k ≤ h) → k ≤ h
-    by (yes o) = o
-    by (no o) = absurd (omega (arith, fewer w h k l m (lt_of_not-le o) g))
-
--- what is less, and has as much over, has fewer words
-pub strictly : (w h k l m : ℕ) → k * w + m < h * w + l → l ≤ m → k < h
-strictly w h k l m f g = by (dec_le h k)
-  where
-    by : Dec (h ≤ k) → k < h
-    by (yes o) = absurd (omega (arith, mul-le-mul_right w o))
-    by (no o) = lt_of_not-le o
-
--- a difference, word by word
-pub difference : (w h k l m : ℕ) → k ≤ h → m ≤ l → h * w + l - (k * w + m) ≡ (h - k) * w + (l - m)
-difference w h k l m f g = let e : h ≡ h - k + k = omega arith in omega (arith, ap (λ (z : ℕ). z * w) e)
-
--- and where the low words borrow
-pub borrowed : (w h k l m : ℕ) → k < h → l < m → m < w → h * w + l - (k * w + m) ≡ (h - k - 1) * w + (w - 1 - m + l + 1)
-borrowed w h k l m f g i = let e : h ≡ h - k - 1 + k + 1 = omega arith in omega (arith, ap (λ (z : ℕ). z * w) e)
-
 -- less than w words of w, with less than a word over
 below_square : (w h l : ℕ) → h < w → l < w → h * w + l < w * w
 below_square w h l f g = omega (arith, fewer w h w l 0 f g)
@@ -141,14 +101,6 @@ value-most x f g = below_square (2 ^ 64) x.high x.low f g
 pub product_value : {x : Wide} (a b : ℕ) → a < 2 ^ 64 → b < 2 ^ 64 → x ≡ wide (a * b) → value x ≡ a * b
 product_value a b f g e = ap value e ∙ value-wide (a * b) (product-below (2 ^ 64) a b f g)
 
--- two orders that decide alike
-pub same-order : (a b c d : ℕ) → (a ≤ b → c ≤ d) → (b < a → d < c) → leb a b ≡ leb c d
-same-order a b c d f g = by (dec_le a b)
-  where
-    by : Dec (a ≤ b) → leb a b ≡ leb c d
-    by (yes l) = rw (le-leb a b l, le-leb c d (f l))
-    by (no n) = let l : b < a = lt_of_not-le n in rw (lt-leb a b l, lt-leb c d (g l))
-
 -- ---- halves of 32 bits
 
 -- a product of two halves leaves room for two halves more
@@ -159,3 +111,16 @@ room {a} {b} h k = mul-le-mul {n₂ = 4294967295} {m₂ = 4294967295} (omega ari
 pub halves : (a b c d : ℕ) → let first = b * d in let second = a * d + first / 2 ^ 32 in let third = b * c + second % 2 ^ 32 in
     (a * 2 ^ 32 + b) * (c * 2 ^ 32 + d) ≡ (a * c + second / 2 ^ 32 + third / 2 ^ 32) * 2 ^ 64 + (third % 2 ^ 32 * 2 ^ 32 + first % 2 ^ 32)
 halves a b c d = omega arith
+
+-- ---- a carry and a borrow as the code has them
+
+-- a sum of two words is what is carried and the low word
+pub carry_is : (n : ℕ) (carry : Bool) → n < 2 * 2 ^ 64 → FalseIff carry (n < 2 ^ 64) → n ≡ bool_byte carry * 2 ^ 64 + n % 2 ^ 64
+carry_is n true m f = omega (arith, f)
+carry_is n false m f = omega (arith, f)
+
+-- a difference of numbers of two words, where the low words borrow and where they do not
+pub borrow_is : (h k l m low : ℕ) (borrow : Bool) → k * 2 ^ 64 + m < h * 2 ^ 64 + l → l < 2 ^ 64 → m < 2 ^ 64 → low < 2 ^ 64 →
+    (low + m) % 2 ^ 64 ≡ l → FalseIff borrow (m ≤ l) → h * 2 ^ 64 + l - (k * 2 ^ 64 + m) ≡ (h - k - bool_byte borrow) * 2 ^ 64 + low
+borrow_is h k l m low true less a b c e f = omega (arith, f)
+borrow_is h k l m low false less a b c e f = omega (arith, f)

@@ -1,7 +1,6 @@
 -- The standard uncertainty for every Q, t·v·beta, v·beta, f and factor: none outside a range that every accepted job keeps. Assumes nothing.
-use Rattle.std.specs.Prelude.{ℕ, Bool, cond, ◌&&◌, ltb, leb}
+use Rattle.std.specs.Prelude.{Option, None, ℕ, Bool, cond, ◌&&◌, ltb, leb}
 use Rattle.records.specs.declared.Uncertainty.{Uncertainty}
-use Rattle.records.specs.declared.Uncertainty.TheVariants.{Unstated}
 use Rattle.meaning.specs.Certificate.{uncertainty_from}
 use Rattle.arithmetic.specs.Hundredths.{ranged}
 
@@ -10,5 +9,5 @@ unfoldable pub stated : ℕ → ℕ → ℕ → ℕ → ℕ → Bool
 stated q tvb vbeta freedom factor = (ltb 0 tvb && (leb tvb 130000 && leb factor 51)) && ranged q vbeta freedom
 
 -- the standard uncertainty; none outside the range
-unfoldable pub uncertainty_in : ℕ → ℕ → ℕ → ℕ → ℕ → Uncertainty
-uncertainty_in q tvb vbeta freedom factor = cond (stated q tvb vbeta freedom factor) (uncertainty_from q tvb vbeta freedom factor) Unstated
+unfoldable pub uncertainty_in : ℕ → ℕ → ℕ → ℕ → ℕ → Option Uncertainty
+uncertainty_in q tvb vbeta freedom factor = cond (stated q tvb vbeta freedom factor) (uncertainty_from q tvb vbeta freedom factor) None

@@ -6,6 +6,9 @@ ghost use Rattle.arithmetic.specs.Quotient.{exact, quotient_of, value_from};
 
 use records::Value;
 
+// Every whole number below it is an f64 exactly: 2 to the power 53.
+const EXACT: u64 = 9007199254740992;
+
 // numerator / denominator as an f64: each cast is exact, so the fraction is rounded once.
 pub(crate) fn quotient(numerator: i64, denominator: u64) -> f64
     ensures { result ≡ quotient_of numerator denominator }
@@ -21,10 +24,10 @@ pub(crate) fn quotient(numerator: i64, denominator: u64) -> f64
 pub(crate) fn unsigned_quotient(numerator: u64, denominator: u64) -> f64
     ensures { result ≡ quotient_of (pos numerator) denominator }
 {
-    if 9007199254740992 <= numerator {
-        return 0.0;
+    match i64::try_from(numerator) {
+        Ok(numerator) => quotient(numerator, denominator),
+        Err(_) => 0.0,
     }
-    quotient(numerator as i64, denominator)
 }
 
 // A fraction with its published hundredths and its f64, and a variance factor over the same denominator with its own. Every Value is made here.
@@ -44,20 +47,11 @@ pub fn value_from(numerator: i64, denominator: u64, hundredths: i64, factor: u64
 }
 
 // Whether both numbers are f64s exactly, and the denominator is not 0.
+#[tactic(auto, unfolding(crate::specs::Quotient::exact))]
 pub(crate) fn is_exact(numerator: i64, denominator: u64) -> bool
     ensures { result ≡ exact numerator denominator }
 {
-    let magnitude = size(numerator);
-    if 9007199254740992 <= magnitude {
-        return false;
-    }
-    if denominator == 0 {
-        return false;
-    }
-    if 9007199254740992 <= denominator {
-        return false;
-    }
-    true
+    size(numerator) < EXACT && (1..EXACT).contains(&denominator)
 }
 
 // The two casts and the one division. No other place casts to an f64.
@@ -68,9 +62,9 @@ fn divided(numerator: i64, denominator: u64) -> f64
     numerator as f64 / denominator as f64
 }
 
-// The size of x. That of the least i64 is no i64, so `!x` stands for x below 0: one less than its size.
+// The size of x, which of the least i64 is no i64.
 pub fn size(x: i64) -> u64
     ensures { result ≡ nat_abs x }
 {
-    if x < 0 { (!x) as u64 + 1 } else { x as u64 }
+    x.unsigned_abs()
 }

@@ -4,14 +4,14 @@ ghost use Rattle.meaning.specs.Publishing.{minus, signed, nearest};
 ghost use Rattle.arithmetic.specs.Quotient.{exact, hundredths_of, below_of, part_of, lifted_of};
 
 use crate::quotient::{is_exact, size};
+use std::cmp::Ordering;
 
 // The nearest whole number to 100 times the fraction, an exact half to the even one. The sign goes around: half to even is the same below zero.
 pub fn hundredths(numerator: i64, denominator: u64) -> i64
     ensures { result ≡ hundredths_of numerator denominator }
 {
     if is_exact(numerator, denominator) {
-        let magnitude = size(numerator);
-        with_sign(numerator, nearest(100 * magnitude, denominator))
+        with_sign(numerator, nearest(100 * size(numerator), denominator))
     } else {
         0
     }
@@ -63,11 +63,7 @@ fn with_sign(x: i64, size: u64) -> i64
     requires { size < 2 ^ 63 }
     ensures { result ≡ signed (minus x) size }
 {
-    if x < 0 {
-        0 - (size as i64)
-    } else {
-        size as i64
-    }
+    if x < 0 { -(size as i64) } else { size as i64 }
 }
 
 // The nearest whole number to a / d, an exact half to the even one.
@@ -77,11 +73,9 @@ fn nearest(a: u64, d: u64) -> u64
 {
     let down = a / d;
     let twice = 2 * (a % d);
-    if twice < d {
-        return down;
+    match twice.cmp(&d) {
+        Ordering::Less => down,
+        Ordering::Equal => down + down % 2,
+        Ordering::Greater => down + 1,
     }
-    if d < twice {
-        return down + 1;
-    }
-    down + down % 2
 }

@@ -4,7 +4,7 @@ ghost use Rattle.meaning.specs.Publishing.{spread_of};
 ghost use Rattle.meaning.specs.Wide.{value};
 ghost use Rattle.arithmetic.specs.Hundredths.{ranged, hundredths_from, spreading_from};
 
-use crate::quotient::quotient;
+use crate::quotient::unsigned_quotient;
 use crate::wide::{divide, root, times};
 use records::{Spread, Spreading, Wide};
 
@@ -23,16 +23,16 @@ pub fn spread_from(q: Wide, vbeta: u64, freedom: u64) -> Spreading
     }
 }
 
-// The spread as an enum: none where there is no freedom.
-fn as_spread(hundredths: u64, freedom: u64) -> Spread
+// The spread by its f64: none where there is no freedom.
+fn as_spread(hundredths: u64, freedom: u64) -> Option<Spread>
     requires { hundredths < 2 ^ 53 }
     ensures { result ≡ spread_of hundredths freedom }
 {
     if freedom == 0 {
-        Spread::None
+        None
     } else {
-        let value = quotient(hundredths as i64, 100);
-        Spread::Of(value, freedom)
+        let value = unsigned_quotient(hundredths, 100);
+        Some(Spread { value, freedom })
     }
 }
 
@@ -54,20 +54,9 @@ fn hundredths_from(q: Wide, vbeta: u64, freedom: u64) -> u64
 }
 
 // Whether the three numbers are in a range that every accepted job and 64 of them pooled keep.
+#[tactic(auto, unfolding(crate::specs::Hundredths::ranged))]
 pub(crate) fn is_ranged(q: Wide, vbeta: u64, freedom: u64) -> bool
     ensures { result ≡ ranged (value q) vbeta freedom }
 {
-    if 524288 <= q.high {
-        return false;
-    }
-    if vbeta < 1 {
-        return false;
-    }
-    if 2600 < vbeta {
-        return false;
-    }
-    if 83200 < freedom {
-        return false;
-    }
-    true
+    q.high < 524288 && (1..=2600).contains(&vbeta) && freedom <= 83200
 }

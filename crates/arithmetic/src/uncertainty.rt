@@ -16,18 +16,18 @@ pub fn uncertainty_from(
     vbeta: u64,
     freedom: u64,
     factor: u64,
-) -> Uncertainty
+) -> Option<Uncertainty>
     ensures { result ≡ uncertainty_in (value q) denominator vbeta freedom factor }
 {
     if freedom == 0 {
-        return Uncertainty::Unstated;
+        return None;
     }
     if is_stated(q, denominator, vbeta, freedom, factor) {
         let hundredths = hundredths_over(q, denominator, vbeta, freedom, factor);
         let value = unsigned_quotient(hundredths, 100);
-        Uncertainty::Stated(hundredths, value)
+        Some(Uncertainty { hundredths, value })
     } else {
-        Uncertainty::Unstated
+        None
     }
 }
 
@@ -48,17 +48,9 @@ fn hundredths_over(q: Wide, denominator: u64, vbeta: u64, freedom: u64, factor: 
 }
 
 // Whether the five numbers are in a range that every accepted job keeps.
+#[tactic(auto, unfolding(crate::specs::Uncertainties::stated))]
 fn is_stated(q: Wide, denominator: u64, vbeta: u64, freedom: u64, factor: u64) -> bool
     ensures { result ≡ stated (value q) denominator vbeta freedom factor }
 {
-    if denominator < 1 {
-        return false;
-    }
-    if 130000 < denominator {
-        return false;
-    }
-    if 51 < factor {
-        return false;
-    }
-    is_ranged(q, vbeta, freedom)
+    (1..=130000).contains(&denominator) && factor <= 51 && is_ranged(q, vbeta, freedom)
 }

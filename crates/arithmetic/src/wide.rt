@@ -7,9 +7,7 @@ ghost use Rattle.arithmetic.specs.Division.{divided};
 
 use records::Wide;
 
-// The largest word, and one more than the largest half of a word.
-const LAST_WORD: u64 = 18446744073709551615;
-
+// One more than the largest half of a word.
 const HALF: u64 = 4294967296;
 
 // A quotient and what is left.
@@ -19,7 +17,7 @@ pub struct Divided {
     pub rest: u64,
 }
 
-// The product of two words, by halves of 32 bits.
+// The product of two words, by halves of 32 bits: no number on the way is above 64 bits, and edits that must fail turn single products of the halves.
 pub fn product(a: u64, b: u64) -> Wide
     ensures { result ≡ wide (a * b) }
 {
@@ -40,17 +38,10 @@ pub fn product(a: u64, b: u64) -> Wide
 fn sum(a: u64, b: u64) -> Wide
     ensures { result ≡ wide (a + b) }
 {
-    let room = LAST_WORD - b;
-    if a <= room {
-        Wide {
-            high: 0,
-            low: a + b,
-        }
-    } else {
-        Wide {
-            high: 1,
-            low: a - room - 1,
-        }
+    let (low, carry) = a.overflowing_add(b);
+    Wide {
+        high: u64::from(carry),
+        low,
     }
 }
 
@@ -78,13 +69,7 @@ pub fn add_square(sum: Wide, size: u64) -> Wide
 pub fn at_most(x: Wide, y: Wide) -> bool
     ensures { result ≡ leb (value x) (value y) }
 {
-    if x.high < y.high {
-        return true;
-    }
-    if y.high < x.high {
-        return false;
-    }
-    x.low <= y.low
+    x.high < y.high || (x.high == y.high && x.low <= y.low)
 }
 
 // The difference, 0 where y is above x.
@@ -94,16 +79,10 @@ pub fn subtract(x: Wide, y: Wide) -> Wide
     if at_most(x, y) {
         return Wide { high: 0, low: 0 };
     }
-    if y.low <= x.low {
-        Wide {
-            high: x.high - y.high,
-            low: x.low - y.low,
-        }
-    } else {
-        Wide {
-            high: x.high - y.high - 1,
-            low: LAST_WORD - y.low + x.low + 1,
-        }
+    let (low, borrow) = x.low.overflowing_sub(y.low);
+    Wide {
+        high: x.high - y.high - u64::from(borrow),
+        low,
     }
 }
 
@@ -124,13 +103,7 @@ pub fn times(x: Wide, c: u64) -> Wide
 pub fn divide(x: Wide, d: u64) -> Divided
     ensures { result ≡ divided (value x) d }
 {
-    if d == 0 {
-        return Divided {
-            quotient: Wide { high: 0, low: 0 },
-            rest: 0,
-        };
-    }
-    if HALF <= d {
+    if d == 0 || d >= HALF {
         return Divided {
             quotient: Wide { high: 0, low: 0 },
             rest: 0,
@@ -151,8 +124,9 @@ pub fn divide(x: Wide, d: u64) -> Divided
 pub(crate) fn root(x: Wide) -> u64
     ensures { result ≡ rootOf 64 (value x) }
 {
-    let mut low: u64 = 0;
-    let mut high: u64 = LAST_WORD;
+    // Halving counts no place, so no loop over a range stands for it.
+    let mut low = 0;
+    let mut high = u64::MAX;
     while low < high {
         let middle = high - (high - low) / 2;
         if at_most(product(middle, middle), x) {

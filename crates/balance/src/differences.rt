@@ -15,6 +15,7 @@ pub fn judge_by_differences(head: Head, blocks: &[u8]) -> Judged
 {
     let counted = count_differences(head, blocks);
     let verdict = counted.verdict;
+    // A refusal hands back zeros beside its verdict, which `?` would not.
     if is_refused(verdict) {
         return no_judgement(verdict);
     }

@@ -6,7 +6,7 @@ ghost use Rattle.balance.specs.Tables.{row_even, tables_even, judged_by, tables_
 
 use crate::counting::{count_company, count_opposition};
 use design::{develop, objects};
-use records::{Head, Judged, Parameters, Verdict};
+use records::{Head, Judged, Parameters, Refusal};
 use verdicts::{is_refused, no_judgement};
 use words::ones;
 
@@ -16,6 +16,7 @@ pub fn judge(head: Head, blocks: &[u8]) -> Judged
 {
     let mut words = [0u64; 2600];
     let verdict = develop(head, blocks, &mut words);
+    // A refusal hands back zeros beside its verdict, which `?` would not.
     if is_refused(verdict) {
         return no_judgement(verdict);
     }
@@ -45,14 +46,18 @@ fn judge_tables(
 }
 
 // The judgement where every two of v objects share a side l1 times and oppose l2 times; where they do not, they are unbalanced.
+#[tactic(auto, unfolding(crate::specs::Tables::judged_by))]
 pub(crate) fn judgement(even: bool, v: usize, b: usize, p: u64, l1: u64, l2: u64) -> Judged
     requires { (1 ≤ v) × (v ≤ 50) × (l2 ≤ 2600) }
     ensures { result ≡ judged_by even v b p l1 l2 }
 {
     if !even {
-        return no_judgement(Verdict::Refused(6, 0));
+        return no_judgement(Err(Refusal {
+            number: 6,
+            place: 0,
+        }));
     }
-    let beta = less(l2, l1);
+    let beta = l2.saturating_sub(l1);
     let r = beta * (v as u64 - 1);
     let parameters = Parameters {
         v: v as u64,
@@ -63,7 +68,7 @@ pub(crate) fn judgement(even: bool, v: usize, b: usize, p: u64, l1: u64, l2: u64
         l2,
     };
     Judged {
-        verdict: Verdict::Accepted,
+        verdict: Ok(()),
         parameters,
     }
 }
@@ -80,19 +85,12 @@ pub(crate) fn row_even(
     requires { count + from ≤ 50 }
     ensures { result ≡ row_even company.now opposition.now l1 l2 from count }
 {
-    for k in 0..count {
-        let j = k + from;
-        if company[j] != l1 {
-            return false;
-        }
-        if opposition[j] != l2 {
-            return false;
-        }
-    }
-    true
+    let end = from + count;
+    company[from..end].iter().all(|entry| *entry == l1)
+        && opposition[from..end].iter().all(|entry| *entry == l2)
 }
 
-// Whether every pair of the first v objects has the entries l1 and l2.
+// Whether every pair of the first v objects has the entries l1 and l2. The rows go by number, since row i is asked for its first i entries.
 fn tables_even(
     company: &[[u64; 50]; 50],
     opposition: &[[u64; 50]; 50],
@@ -103,17 +101,11 @@ fn tables_even(
     requires { v ≤ 50 }
     ensures { result ≡ tables_even company.now opposition.now l1 l2 v }
 {
+    // The number of the row is how much of it is looked at; in a closure its bound would have to be asked for again.
     for i in 0..v {
         if !row_even(&company[i], &opposition[i], 0, i, l1, l2) {
             return false;
         }
     }
     true
-}
-
-// x less y, and 0 where y is more.
-fn less(x: u64, y: u64) -> u64
-    ensures { result ≡ x - y }
-{
-    if x < y { 0 } else { x - y }
 }

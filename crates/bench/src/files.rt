@@ -1,73 +1,76 @@
-// Files that arguments name, read into lent room, and which edition a job is of.
-ghost use Rattle.std.specs.Prelude.{◌≡◌, ◌≤◌, length, take};
+// Files that arguments name, as far as they are read, and which edition a job is of.
+use crate::failures::Failure;
+use crate::system::{open, read_at_most};
+use fields::held;
+use records::Held;
 
-use crate::system::{ARGUMENT_ROOM, argument, open, read_full, say_unopened, write_error};
+// No file of the first edition has more bytes, and none of the second, of which one byte more is read.
+const FIRST_LIMIT: usize = 8192;
 
-// Whether a file could be opened, and how many bytes of it were read.
-#[derive(Clone, Copy)]
-pub struct Taken {
-    pub opened: bool,
-    pub length: usize,
+const SECOND_LIMIT: usize = 16384;
+
+// A card and a sheet have no more bytes; of them too one byte more is read.
+pub(crate) const TEXT_LIMIT: usize = 65536;
+
+// The edition of a job.
+#[derive(Clone, Copy, PartialEq, Eq)]
+pub enum Edition {
+    First,
+    Second,
 }
 
-// Reads the file that argument `i` names, as far as there is room, or standard input for `-`. What cannot be opened is said on standard error.
-pub(crate) fn read_argument(rt: &HostRuntime, i: usize, room: &mut [u8]) -> Taken {
-    let mut name = [0u8; ARGUMENT_ROOM];
-    let length = argument(rt, i, &mut name);
-    if sheets::same(&name[..length], b"-") {
-        let n = read_full(&mut rt.stdin(), room);
-        return Taken {
-            opened: true,
-            length: n,
-        };
-    }
-    match open(rt, &name[..length]) {
-        Ok(mut file) => {
-            let n = read_full(&mut file, room);
-            Taken {
-                opened: true,
-                length: n,
-            }
-        }
-        Err(error) => {
-            write_error(rt, b"bench: ");
-            say_unopened(rt, &name[..length], error);
-            Taken {
-                opened: false,
-                length: 0,
-            }
-        }
+// The first byte of a job says which it is of.
+pub(crate) fn edition_of(file: &[u8]) -> Edition {
+    match file.first() {
+        Some(0x10) => Edition::Second,
+        _ => Edition::First,
     }
 }
 
-// Whether a job is of the second edition: its first byte says so.
-pub(crate) fn is_second(file: &[u8]) -> bool {
-    if file.len() < 1 {
-        return false;
+// The first bytes of the file of a name, at most so many, or of standard input for `-`.
+fn read_file<'a>(rt: &HostRuntime, name: &'a [u8], most: usize) -> Result<Vec<u8>, Failure<'a>> {
+    if matches!(name, b"-") {
+        return Ok(read_at_most(rt.alloc(), rt.stdin(), most as u64)?);
     }
-    file[0] == 0x10
+    match open(rt, name) {
+        Ok(file) => Ok(read_at_most(rt.alloc(), file, most as u64)?),
+        Err(error) => Err(Failure::Unopened(name, error)),
+    }
 }
 
-// As many as were read, and no more than there are.
-pub(crate) fn in_front(bytes: &[u8], n: usize) -> usize
-    ensures upper_bound { result ≤ length bytes.now }
-    ensures value { result ≡ length (take result bytes.now) }
-{
-    if n < bytes.len() { n } else { bytes.len() }
+// What is looked at of a job of either edition.
+pub(crate) fn read_job<'a>(rt: &HostRuntime, name: &'a [u8]) -> Result<Vec<u8>, Failure<'a>> {
+    let mut file = read_file(rt, name, SECOND_LIMIT + 1)?;
+    if edition_of(&file) == Edition::First {
+        file.truncate(FIRST_LIMIT);
+    }
+    Ok(file)
 }
 
-// How many bytes of a job are looked at: of the second edition all that were read, of the first the first 8,192.
-pub(crate) fn looked_at(file: &[u8], n: usize) -> usize {
-    if is_second(file) {
-        return n;
-    }
-    if n < 8192 { n } else { 8192 }
+// What is looked at of a job where each is one of the first edition.
+pub(crate) fn read_first_job<'a>(rt: &HostRuntime, name: &'a [u8]) -> Result<Vec<u8>, Failure<'a>> {
+    read_file(rt, name, FIRST_LIMIT)
 }
 
-// Where the four fields of a job start: of the second edition behind the edition field.
-pub(crate) fn fields_start(file: &[u8]) -> usize {
-    if is_second(file) {
-        return 4;
+// A card or a sheet, and a byte more of one that is too long.
+pub(crate) fn read_text<'a>(rt: &HostRuntime, name: &'a [u8]) -> Result<Vec<u8>, Failure<'a>> {
+    read_file(rt, name, TEXT_LIMIT + 1)
+}
+
+// The four fields of a job, and what may follow them: in the second edition they stand behind the edition field.
+pub(crate) fn fields_of(file: &[u8]) -> &[u8] {
+    match edition_of(file) {
+        Edition::First => file,
+        Edition::Second => file.get(4..).unwrap_or(b""),
     }
-    0
+}
+
+// The block list that four fields hold.
+pub(crate) fn blocks_of(fields: &[u8]) -> &[u8] {
+    let Held {
+        blocks_at,
+        restraint_at,
+        ..
+    } = held(fields);
+    fields.get(blocks_at..restraint_at).unwrap_or(b"")
 }

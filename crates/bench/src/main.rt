@@ -5,6 +5,7 @@
 
 mod carding;
 mod check;
+mod failures;
 mod figures;
 mod files;
 mod numerals;
@@ -12,7 +13,6 @@ mod pairs;
 mod pooling;
 mod practising;
 mod refusals;
-mod said;
 mod system;
 mod texts;
 mod verbs;
@@ -20,27 +20,52 @@ mod verbs;
 ghost use Rattle.std.specs.Prelude.{◌≡◌, ◌≤◌, length, take};
 ghost use Rattle.meaning.specs.Text.{text_of};
 
-use crate::system::{argument_count, read_full, write_error, write_output};
-use crate::verbs::{Verb, say_no_verb, verb_argument};
+use crate::failures::{Failure, say_failure};
+use crate::system::{arguments, read_at_most, say_line, write_output};
+use crate::verbs::Verb;
+use std::alloc::AllocError;
 
 fn main(rt: HostRuntime) {
-    let count = argument_count(&rt);
-    if count < 2 {
-        list(&rt);
-    } else {
-        run_verb(&rt, count);
+    if run(&rt).is_err() {
+        say_line(&rt, "bench: there is no memory left");
+    }
+}
+
+// Does what the arguments ask for, and says why where that cannot be done.
+fn run(rt: &HostRuntime) -> Result<(), AllocError> {
+    let words = arguments(rt)?;
+    match run_words(rt, &words) {
+        Ok(()) => Ok(()),
+        Err(failure) => say_failure(rt, failure),
+    }
+}
+
+// What the first word after the program's name asks for.
+fn run_words<'a>(rt: &HostRuntime, words: &'a [Vec<u8>]) -> Result<(), Failure<'a>> {
+    let [_, name, rest @ ..] = words else {
+        return Ok(list(rt)?);
+    };
+    match Verb::named(name) {
+        Some(Verb::Job) => carding::make_job(rt, rest),
+        Some(Verb::Check) => check::check(rt, rest),
+        Some(Verb::Practice) => practising::practise(rt, rest),
+        Some(Verb::Pool) => pooling::pool(rt, rest),
+        Some(Verb::Help) => verbs::help(rt, rest),
+        Some(Verb::Version) => verbs::version(rt, rest),
+        Some(verb) => texts::print_text(rt, verb, rest),
+        None => Err(Failure::NoVerb(name)),
     }
 }
 
 // The listing of what stands on standard input.
-fn list(rt: &HostRuntime) {
-    let mut input = [0u8; 8192];
-    let n = read_full(&mut rt.stdin(), &mut input);
+fn list(rt: &HostRuntime) -> Result<(), AllocError> {
+    let input = read_at_most(rt.alloc(), rt.stdin(), 8192)?;
     let mut text = [0u8; 65536];
-    let length = put_text(&input[..n], &mut text);
+    let length = put_text(&input, &mut text);
     if !write_output(rt, &text[..length]) {
-        write_error(rt, b"bench: the listing could not be written\n");
+        say_line(rt, "bench: the listing could not be written");
     }
+    Ok(())
 }
 
 // The text for a file at the front of `text`, and its length: what is printed. 64 KiB are room for every text.
@@ -52,21 +77,4 @@ fn put_text(bytes: &[u8], text: &mut [u8]) -> usize
 {
     let listed = listing::listing(bytes, text);
     listed.length
-}
-
-// What the first of the arguments names.
-fn run_verb(rt: &HostRuntime, count: usize) {
-    let verb = verb_argument(rt, 1);
-    match verb {
-        Verb::List => texts::print_text(rt, verb, count),
-        Verb::Certificate => texts::print_text(rt, verb, count),
-        Verb::Job => carding::make_job(rt, count),
-        Verb::Card => texts::print_text(rt, verb, count),
-        Verb::Check => check::check(rt, count),
-        Verb::Practice => practising::practise(rt, count),
-        Verb::Pool => pooling::pool(rt, count),
-        Verb::Help => verbs::help(rt, count),
-        Verb::Version => verbs::version(rt, count),
-        Verb::None => say_no_verb(rt, 1),
-    }
 }

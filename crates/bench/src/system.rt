@@ -1,44 +1,30 @@
 // What the program has of the system: its arguments, the files that they name, standard input, standard output and standard error.
-ghost use Rattle.std.specs.Prelude.{◌≡◌, ◌≤◌, length, take};
-
+// The trials have a file like this of their own: a public function of a library promises what it answers, and nothing can be promised of the system.
+use std::alloc::{AllocError, Global};
 use std::env::FillError;
+use std::fmt::Display;
 use std::fs::File;
 use std::io;
-use std::io::{Cursor, ErrorKind, Read, Write};
+use std::io::{ErrorKind, Read, Write};
 use std::rt::Env;
 use std::str::from_utf8;
 
-// Room for an argument: as many bytes as the longest path has, with the one that ends it.
-pub const ARGUMENT_ROOM: usize = 4096;
+// As many bytes as the longest path has, with the one that ends it.
+const ARGUMENT_ROOM: usize = 4096;
 
-// How many arguments there are, the program's name among them.
-pub(crate) fn argument_count(rt: &HostRuntime) -> usize {
+// The arguments, the program's name first. One that is longer than every path counts as an empty one.
+pub(crate) fn arguments(rt: &HostRuntime) -> Result<Vec<Vec<u8>>, AllocError> {
+    let mut words = Vec::new(rt.alloc());
+    let mut room = [0u8; ARGUMENT_ROOM];
     for i in 0..usize::MAX {
-        if is_missing(rt, i) {
-            return i;
-        }
+        let length = match rt.arg(i, &mut room) {
+            Ok(length) => length,
+            Err(FillError::TooLong) => 0,
+            Err(FillError::NotPresent) => break,
+        };
+        words.push(Vec::from_slice(rt.alloc(), &room[..length])?)?;
     }
-    usize::MAX
-}
-
-// Whether there is no argument `i`.
-fn is_missing(rt: &HostRuntime, i: usize) -> bool {
-    let mut nothing = [0u8; 1];
-    match rt.arg(i, &mut nothing) {
-        Err(FillError::NotPresent) => true,
-        _ => false,
-    }
-}
-
-// Puts argument `i` at the front of `room`, and its length: 0 where it is missing or there is no room for it.
-pub(crate) fn argument(rt: &HostRuntime, i: usize, room: &mut [u8]) -> usize
-    ensures upper_bound { result ≤ length room.new }
-    ensures value { result ≡ length (take result room.new) }
-{
-    match rt.arg(i, room) {
-        Ok(n) => n,
-        Err(_) => 0,
-    }
+    Ok(words)
 }
 
 // Opens the file of a name for reading. A name is the bytes of UTF-8.
@@ -49,20 +35,17 @@ pub(crate) fn open(rt: &HostRuntime, name: &[u8]) -> io::Result<File> {
     }
 }
 
-// Reads until the room is full, the input ends or a read fails, and answers how many bytes now stand at the front of the room.
-pub(crate) fn read_full<R: Read>(from: &mut R, room: &mut [u8]) -> usize
-    ensures upper_bound { result ≤ length room.new }
-    ensures value { result ≡ length (take result room.new) }
-{
-    let mut done = 0;
-    while done < room.len() {
-        match from.read(&mut room[done..]) {
-            Ok(0) => break,
-            Ok(n) => done += n,
-            Err(_) => break,
-        }
+// Reads so many bytes, or fewer where the input ends before; a read that fails counts as the end.
+pub(crate) fn read_at_most<R: Read + Drop>(
+    alloc: Global,
+    from: R,
+    most: u64,
+) -> Result<Vec<u8>, AllocError> {
+    let mut bytes = Vec::new(alloc);
+    match from.take(most).read_to_end(&mut bytes) {
+        Err(error) if error.kind() == ErrorKind::OutOfMemory => Err(AllocError),
+        _ => Ok(bytes),
     }
-    done
 }
 
 // Writes all of these bytes on standard output, and whether that could be done.
@@ -70,39 +53,45 @@ pub(crate) fn write_output(rt: &HostRuntime, bytes: &[u8]) -> bool {
     rt.stdout().write_all(bytes).is_ok()
 }
 
-// Writes them on standard error; what cannot be written there is lost.
-pub(crate) fn write_error(rt: &HostRuntime, bytes: &[u8]) {
-    let _ = rt.stderr().write_all(bytes);
+// A line on standard output.
+pub(crate) fn put_line<L: Display + Drop>(rt: &HostRuntime, line: L) {
+    if rt.println(line).is_err() {
+        say_unwritten(rt);
+    }
 }
 
-// A line on standard error: a name, and why its file could not be opened, in the words of the system.
-pub(crate) fn say_unopened(rt: &HostRuntime, name: &[u8], error: io::Error) {
-    let mut text = [0u8; 320];
-    let length = put_error(&mut text, error);
-    write_error(rt, name);
-    write_error(rt, b": ");
-    write_error(rt, words_of(&text[..length]));
-    write_error(rt, b"\n");
+// A text on standard output, or a file.
+pub(crate) fn put_text(rt: &HostRuntime, text: &[u8]) {
+    if !write_output(rt, text) {
+        say_unwritten(rt);
+    }
 }
 
-// An error at the front of `text`, as far as there is room, and its length.
-fn put_error(text: &mut [u8], error: io::Error) -> usize
-    ensures { result ≤ length text.new }
-{
-    let room = text.len();
-    let mut cursor = Cursor::new(text);
-    let _ = write!(cursor, "{error}");
-    let end = cursor.position() as usize;
-    if end < room { end } else { room }
+fn say_unwritten(rt: &HostRuntime) {
+    say_line(rt, "bench: the answer could not be written");
+}
+
+// A line on standard error; what cannot be written there is lost.
+pub(crate) fn say_line<L: Display + Drop>(rt: &HostRuntime, line: L) {
+    let _ = rt.eprintln(line);
+}
+
+// A line on standard error with a word in it that need not be text.
+pub(crate) fn say_of<B: Display + Drop, E: Display + Drop>(
+    rt: &HostRuntime,
+    before: B,
+    word: &[u8],
+    behind: E,
+) {
+    let _ = eprint!(rt; "{before}");
+    let _ = rt.stderr().write_all(word);
+    say_line(rt, behind);
 }
 
 // The words of an error of the system, without its number, which the library puts behind them.
-fn words_of(text: &[u8]) -> &[u8] {
-    let Ok(said) = from_utf8(text) else {
-        return text;
-    };
-    match said.rsplit_once(" (os error ") {
-        Some((words, _)) => words.as_bytes(),
-        None => text,
+pub(crate) fn words_of(error: &str) -> &str {
+    match error.rsplit_once(" (os error ") {
+        Some((words, _)) => words,
+        None => error,
     }
 }

@@ -1,67 +1,27 @@
 -- A word by what is wanted: which card it makes, and which bytes it gives. Assumes nothing.
-use Prim.Native.Nat.{ℕ, ◌+◌, ◌-◌, ◌^◌, ◌<◌, ◌≤◌}
-use mathlib.Core.Path.{◌≡◌, refl, sym, ap, ap₂, subst, ◌∙◌}
+use Prim.Native.Nat.{ℕ, ◌+◌, ◌^◌, ◌<◌, ◌≤◌}
+use mathlib.Core.Path.{◌≡◌, refl, sym, ap, subst, ◌∙◌}
 use mathlib.Core.List.{List, [], ◌∷◌, ◌++◌}
-use mathlib.Core.Bool.{Bool, true, false, cond, not, ◌&&◌, true≢false, false≢true}
+use mathlib.Core.Bool.{Bool, true, false, cond, not, ◌&&◌, false≢true}
+use native.Mathlib.Decide.{dec_le}
+use native.Mathlib.Nat.{lt_of_not-le}
 use native.Mathlib.Omega.{arith}
-use borrow.Author.Tests.{ltb-true, ne_eqb, le-leb, lt-leb, not-true}
+use borrow.Author.Tests.{ltb-true, ne_eqb, le-leb, lt-leb}
 use lib.Dec.{eqb, leb}
 use lib.IntN.{ℤ, pos, negsuc}
 use lib.ListN.{length}
 use lib.Signed.{mag}
 use Rattle.records.specs.declared.Card.{Card}
-use Rattle.records.specs.declared.Numeral.{Numeral}
-use Rattle.records.specs.declared.SignedNumeral.{SignedNumeral}
+use Rattle.std.specs.Prelude.{None, Some}
 use Rattle.algebra.specs.Buffers.{Wrote}
-use Rattle.algebra.proofs.Writing.{kept, nothing, named}
+use Rattle.algebra.proofs.Writing.{kept, nothing}
 use Rattle.meaning.specs.Text.{ascii}
-use Rattle.meaning.specs.SheetText.{same, signed_of}
+use Rattle.meaning.specs.SheetText.{signed_of}
 use Rattle.meaning.specs.Writing.{bytes_of, wrapped}
-use Rattle.meaning.specs.Edition2.{names_tag, names_length}
-use Rattle.meaning.specs.Card.{
-  object_of,
-  is_body,
-  body_of,
-  is_name,
-  name_of,
-  is_int32,
-  is_reading,
-  next,
-  counting,
-  sizing,
-  with_m,
-  longer,
-  expect,
-  take_kind,
-  take_size,
-  take_fixed,
-  take_first,
-  take_more,
-  take_object,
-  take_block,
-  take_member,
-  take_standard,
-  take_sum,
-  take_reading,
-  take_after,
-  take_name,
-  take_tag,
-  take_bytes,
-  taken,
-  object_bytes,
-  reading_bytes,
-  after_bytes,
-  field_bytes,
-  given_bytes,
-  adds,
-  step,
-}
+use Rattle.meaning.specs.Card.{object_of, is_body, body_of, is_name, name_of, is_int32, is_reading, next, counting, sizing, with_m, expect, take_kind, take_size, take_fixed, take_first, take_more, take_object, take_block, take_member, take_standard, take_sum, take_reading, take_after, take_name, take_tag, take_bytes, taken, object_bytes, reading_bytes, after_bytes, field_bytes, given_bytes, step}
 use Rattle.writing.proofs.Shortened.{bits_short}
-use Rattle.cards.specs.Sizes.{Kept}
 use Rattle.cards.specs.Putting.{Puts}
-use Rattle.cards.proofs.Choices.{and_second}
 use Rattle.cards.proofs.Going.{place}
-use Rattle.cards.proofs.Keeping.{taken-length}
 
 module _ (c : Card) (w : List ℕ) where
   -- the card with the word where j is wanted
@@ -111,13 +71,20 @@ module _ (c : Card) (w : List ℕ) where
   given-object l h = rw (le-leb 6 c.wants l, le-leb c.wants 10 h)
 
   module _ (a : c.wants ≡ 16 → ⊥) (b : c.wants ≡ 17 → ⊥) (d : c.wants ≡ 18 → ⊥) (e : c.wants ≡ 21 → ⊥) where
-    pub given-low : c.wants < 6 → [] ≡ given_bytes c w
+    given-low : c.wants < 6 → [] ≡ given_bytes c w
     unfolding given_bytes
     given-low h = rw (lt-leb 6 c.wants h, ne_eqb c.wants 16 a, ne_eqb c.wants 17 b, ne_eqb c.wants 18 d, ne_eqb c.wants 21 e)
 
-    pub given_high : 10 < c.wants → [] ≡ given_bytes c w
+    given_high : 10 < c.wants → [] ≡ given_bytes c w
     unfolding given_bytes
     given_high h = rw (le-leb 6 c.wants (omega arith), lt-leb c.wants 10 h, ne_eqb c.wants 16 a, ne_eqb c.wants 17 b, ne_eqb c.wants 18 d, ne_eqb c.wants 21 e)
+
+    pub given_other : (6 ≤ c.wants → 10 < c.wants) → [] ≡ given_bytes c w
+    given_other f = by (dec_le 6 c.wants)
+      where
+        by : Dec (6 ≤ c.wants) → [] ≡ given_bytes c w
+        by (yes h) = given_high (f h)
+        by (no g) = given-low (lt_of_not-le g)
 
   -- a name that is none makes the card bad
   pub name-good : c.wants ≡ 18 → not (taken c w).bad ≡ true → is_name 8 w ≡ true
@@ -132,34 +99,26 @@ module _ (c : Card) (w : List ℕ) where
 
   -- ---- each kind of bytes
 
-  module _ (n : Numeral) (is : n ≡ object_of w) where
-    pub object-some : n.read ≡ true → n.number ∷ [] ≡ object_bytes c w
-    unfolding object_bytes
-    object-some e = rw (← is, e)
+  pub object-none : None ≡ object_of w → [] ≡ object_bytes c w
+  unfolding object_bytes
+  object-none e = rw (← e)
 
-    pub object-none : n.read ≡ false → [] ≡ object_bytes c w
-    unfolding object_bytes
-    object-none e = rw (← is, e)
-
-  pub reading-none : is_reading w ≡ false → [] ≡ reading_bytes c w
-  unfolding reading_bytes
-  reading-none e = rw e
-
-  pub reading-some : (n : SignedNumeral) → n ≡ signed_of w → is_reading w ≡ true → bytes_of 4 (wrapped 64 n.number) ≡ reading_bytes c w
+  -- a word that is no number, and a number of more than 32 bits
+  pub reading-none : None ≡ signed_of w → [] ≡ reading_bytes c w
   unfolding reading_bytes is_reading
-  reading-some n is e = rw (e, ← is) (bits_short n.number (by n.number (rw (← is) at (and_second (signed_of w).read (is_int32 (signed_of w).number) e))))
+  reading-none e = rw (← e)
+
+  pub reading-wide : (z : ℤ) → Some z ≡ signed_of w → is_int32 z ≡ false → [] ≡ reading_bytes c w
+  unfolding reading_bytes is_reading
+  reading-wide z is e = rw (← is, e)
+
+  pub reading-some : (z : ℤ) → Some z ≡ signed_of w → is_int32 z ≡ true → bytes_of 4 (wrapped 64 z) ≡ reading_bytes c w
+  unfolding reading_bytes is_reading
+  reading-some z is e = rw (← is, e) (bits_short z (by z e))
     where
       by : (z : ℤ) → is_int32 z ≡ true → mag z < 2 ^ 31
       by (pos x) t = ltb-true x (2 ^ 31) t
       by (negsuc x) t = ltb-true x (2 ^ 31) t
-
-  pub after-names : same w (ascii "names") ≡ true → names_tag ∷ bytes_of 2 (names_length c.head) ≡ after_bytes c w
-  unfolding after_bytes
-  after-names e = rw e
-
-  pub after-other : same w (ascii "names") ≡ false → reading_bytes c w ≡ after_bytes c w
-  unfolding after_bytes
-  after-other e = rw e
 
   pub field-none : is_body w ≡ false → [] ≡ field_bytes c w
   unfolding field_bytes
@@ -189,25 +148,3 @@ module _ (c : Card) (w : List ℕ) where
   pub bad-step : c.bad ≡ true → c ≡ step c w
   unfolding step
   bad-step e = rw e
-
-  pub bad-adds : c.bad ≡ true → [] ≡ adds c w
-  unfolding adds
-  bad-adds e = rw e
-
-  good-step : c.bad ≡ false → longer (length (given_bytes c w)) (taken c w) ≡ step c w
-  unfolding step
-  good-step e = rw e
-
-  good-adds : c.bad ≡ false → given_bytes c w ≡ adds c w
-  unfolding adds
-  good-adds e = rw e
-
-  pub word_puts : (k : ℕ) → Kept k c → c.bad ≡ false → {body after : List ℕ} {n : ℕ} →
-      Puts (not (taken c w).bad) body c.length (given_bytes c w) after n → (r : Card) → r ≡ longer (n - c.length) (taken c w) →
-      (r ≡ step c w) × Puts (not r.bad) body c.length (adds c w) after r.length
-  word_puts k h good {body} {after} {n} p r e =
-      let given : n - c.length ≡ length (given_bytes c w) = omega (arith, p.place) in
-      let is : r ≡ longer (length (given_bytes c w)) (taken c w) = e ∙ ap (λ (x : ℕ). longer x (taken c w)) given in
-      let last : n ≡ (taken c w).length + length (given_bytes c w) = omega (arith, p.place, taken-length k c w h good) in
-      let end = subst (λ (x : ℕ). Puts (not (taken c w).bad) body c.length (given_bytes c w) after x) last p in
-      (is ∙ good-step good, subst (λ (d : Card). Puts (not d.bad) body c.length (adds c w) after d.length) (sym is) (puts_named end (good-adds good)))

@@ -1,8 +1,7 @@
 -- A text that is written piece by piece, by what is yet to be written. Assumes nothing.
 use Prim.Native.Nat.{ℕ, ◌+◌, ◌<◌}
-use mathlib.Core.Path.{◌≡◌, refl, sym, ◌∙◌}
-use mathlib.Core.List.{List, [], ◌∷◌, ◌++◌}
-use native.Mathlib.Omega.{arith}
+use mathlib.Core.Path.{◌≡◌, sym, ◌∙◌}
+use mathlib.Core.List.{List, [], ◌++◌}
 use lib.ListN.{length}
 use Rattle.algebra.specs.Buffers.{write, Wrote}
 use Rattle.algebra.proofs.Writing.{write-append, plainly}

@@ -1,87 +1,40 @@
 -- What a word does to the numbers of a card: they stay as small as `Kept` says, and the bytes that the words give are counted. Assumes nothing.
-use Prim.Native.Nat.{ℕ, zero, suc, ◌+◌, ◌*◌, ◌/◌, ◌%◌, ◌<◌, ◌≤◌}
-use mathlib.Core.Path.{◌≡◌, refl, sym, ap, subst, ◌∙◌}
-use mathlib.Core.List.{List, [], ◌∷◌, ◌++◌}
+use Prim.Native.Nat.{ℕ, zero, suc, ◌+◌, ◌/◌, ◌%◌, ◌≤◌}
+use mathlib.Core.Path.{◌≡◌, refl, sym, ap, subst}
+use mathlib.Core.List.{List, [], ◌∷◌}
 use mathlib.Core.Bool.{Bool, true, false, cond, not, ◌&&◌}
 use native.Mathlib.Omega.{arith}
 use borrow.Author.Tests.{ltb-true, ltb-false, eqb-true, eqb-false, not-true}
 use lib.Dec.{eqb, ltb, leb}
-use lib.ListN.{length, get_or, drop, length-append}
+use lib.ListN.{length, drop, length-append}
 use Rattle.records.specs.declared.Card.{Card}
 use Rattle.records.specs.declared.Head.{Head}
-use Rattle.records.specs.declared.Numeral.{Numeral}
 use Rattle.meaning.specs.Design.{objects}
 use Rattle.meaning.specs.Analysis.{member}
 use Rattle.meaning.specs.Text.{ascii}
 use Rattle.meaning.specs.Writing.{bytes_of, wrapped}
-use Rattle.meaning.specs.Edition2.{names_tag, names_length}
+use Rattle.meaning.specs.Edition2.{names_length}
 use Rattle.meaning.specs.SheetText.{same, digital, decimal, is_number, number_of, signed_of}
-use Rattle.meaning.specs.Card.{
-  object_of,
-  member_of,
-  hex_byte,
-  hex_bytes,
-  is_body,
-  body_of,
-  is_tag,
-  is_name,
-  name_of,
-  is_reading,
-  next,
-  fail,
-  sizing,
-  counting,
-  standing,
-  summing,
-  weighed,
-  longer,
-  expect,
-  with_n,
-  with_flag,
-  with_p,
-  with_m,
-  take_kind,
-  take_size,
-  take_fixed,
-  take_first,
-  take_more,
-  take_object,
-  take_block,
-  take_member,
-  take_standard,
-  take_sum,
-  take_reading,
-  take_after,
-  take_name,
-  take_tag,
-  take_bytes,
-  taken,
-  object_bytes,
-  reading_bytes,
-  after_bytes,
-  field_bytes,
-  given_bytes,
-  adds,
-  step,
-}
+use Rattle.meaning.specs.Card.{object_of, member_of, hex_byte, hex_bytes, is_body, body_of, is_tag, is_name, name_of, is_reading, next, fail, sizing, counting, longer, expect, with_m, take_kind, take_size, take_fixed, take_first, take_more, take_object, take_block, take_member, take_standard, take_sum, take_reading, take_after, take_name, take_tag, take_bytes, taken, object_bytes, reading_bytes, after_bytes, field_bytes, given_bytes, step}
 use Rattle.laws.proofs.Bytes.{bytes-long}
 use borrow.Author.Rules.{rules}
+use Rattle.std.specs.Prelude.{Option, Some, is_some, unwrap_or, pos}
 use Rattle.cards.specs.Sizes.{Small, Measured, Kept}
 use Rattle.cards.proofs.Choices.{either, and_second}
 use Rattle.cards.proofs.hexadecimal.Digits.{tag_most, hex_long}
 
 -- a number that is read is within its limit
-pub within : (limit : ℕ) (w : List ℕ) → (number_of limit w).number ≤ limit
+pub within : (limit : ℕ) (w : List ℕ) → unwrap_or (number_of limit w) 0 ≤ limit
 unfolding number_of is_number
-within limit w = either (λ (n : Numeral). n.number ≤ limit) (not (eqb (length w) 0) && (digital w && not (ltb limit (decimal 0 w))))
+within limit w = either (λ (n : Option ℕ). unwrap_or n 0 ≤ limit) (not (eqb (length w) 0) && (digital w && not (ltb limit (decimal 0 w))))
     (λ t. ltb-false limit (decimal 0 w) (not-true (ltb limit (decimal 0 w))
     (and_second (digital w) (not (ltb limit (decimal 0 w))) (and_second (not (eqb (length w) 0)) (digital w && not (ltb limit (decimal 0 w))) t))))
     (λ t. omega arith)
 
 -- an object of the restraint is below 64
-pub member-small : (h : Head) (w : List ℕ) → (member_of h w).number ≤ 63
+pub member-small : (h : Head) (w : List ℕ) → unwrap_or (member_of h w) 0 ≤ 63
 unfolding member_of
-member-small h w = either (λ (n : Numeral). n.number ≤ 63) (same w (ascii "inf") && (eqb (h.flag % 2) 1 && ltb h.n 64))
+member-small h w = either (λ (n : Option ℕ). unwrap_or n 0 ≤ 63) (same w (ascii "inf") && (eqb (h.flag % 2) 1 && ltb h.n 64))
     (λ t. omega (
       arith,
       ltb-true h.n 64 (and_second (eqb (h.flag % 2) 1) (ltb h.n 64)
@@ -89,10 +42,16 @@ member-small h w = either (λ (n : Numeral). n.number ≤ 63) (same w (ascii "in
     ))
     (λ t. within 63 w)
 
+pub member-most : (h : Head) (w : List ℕ) (x : ℕ) → Some x ≡ member_of h w → x ≤ 63
+member-most h w x e = subst (λ (n : Option ℕ). unwrap_or n 0 ≤ 63) (sym e) (member-small h w)
+
 -- an object of a block is a byte
-pub object-small : (w : List ℕ) → (object_of w).number ≤ 255
+pub object-small : (w : List ℕ) → unwrap_or (object_of w) 0 ≤ 255
 unfolding object_of
-object-small w = either (λ (n : Numeral). n.number ≤ 255) (same w (ascii "inf")) (λ t. omega arith) (λ t. omega (arith, within 254 w))
+object-small w = either (λ (n : Option ℕ). unwrap_or n 0 ≤ 255) (same w (ascii "inf")) (λ t. omega arith) (λ t. omega (arith, within 254 w))
+
+pub object-most : (w : List ℕ) (x : ℕ) → Some x ≡ object_of w → x ≤ 255
+object-most w x e = subst (λ (n : Option ℕ). unwrap_or n 0 ≤ 255) (sym e) (object-small w)
 
 -- a number that is at least j and not j
 pub above : (x j : ℕ) → j ≤ x → (x ≡ j → ⊥) → j + 1 ≤ x
@@ -126,11 +85,11 @@ module _ (c : Card) (w : List ℕ) where
 
   object-short : Short (object_bytes c w)
   unfolding object_bytes
-  object-short = either Short (object_of w).read (λ t. omega arith) (λ t. omega arith)
+  object-short = either Short (is_some (object_of w)) (λ t. omega arith) (λ t. omega arith)
 
   reading-short : Short (reading_bytes c w)
   unfolding reading_bytes
-  reading-short = either Short (is_reading w) (λ t. omega (arith, bytes-long 4 (wrapped 32 (signed_of w).number))) (λ t. omega arith)
+  reading-short = either Short (is_reading w) (λ t. omega (arith, bytes-long 4 (wrapped 32 (unwrap_or (signed_of w) (pos 0))))) (λ t. omega arith)
 
   after-short : Short (after_bytes c w)
   unfolding after_bytes
@@ -193,7 +152,7 @@ module _ (k : ℕ) (c : Card) (w : List ℕ) (s : Measured k c) where
   keep-size : c.wants ≡ 2 → After (take_size c w)
   unfolding take_size
   keep-size e = let h = known k 2 c s e in
-      either After (number_of 255 w).read (λ t. let most = within 255 w in (search rules, refl)) (λ t. failed)
+      either After (is_some (number_of 255 w)) (λ t. let most = within 255 w in (search rules, refl)) (λ t. failed)
 
   -- a certain word, at 3, 5, 15 and 19
   keep_fixed_word : c.wants ≡ 3 → After (expect c w (ascii "fixed") (next 4 c))
@@ -220,7 +179,7 @@ module _ (k : ℕ) (c : Card) (w : List ℕ) (s : Measured k c) where
   keep-object : c.head.m ≤ 254 → c.head.flag ≤ 3 → c.count ≤ 255 + k → After (take_first c w)
   unfolding take_first
   keep-object m f i = let n = s.n in let p = s.p in let y = s.readings in
-      either After (object_of w).read
+      either After (is_some (object_of w))
       (λ t. either After (ltb c.head.p 255) (λ u. let room = ltb-true c.head.p 255 u in (search rules, refl)) (λ u. (search rules, refl)))
       (λ t. failed)
 
@@ -235,12 +194,12 @@ module _ (k : ℕ) (c : Card) (w : List ℕ) (s : Measured k c) where
   keep_left : c.wants ≡ 8 → After (take_object c w 8 (next 9 c))
   unfolding take_object
   keep_left e = let h = known k 8 c s e in
-      either After (object_of w).read (λ t. either After (eqb (c.count + 1) c.head.p) (λ u. (search rules, refl)) (λ u. (search rules, refl))) (λ t. failed)
+      either After (is_some (object_of w)) (λ t. either After (eqb (c.count + 1) c.head.p) (λ u. (search rules, refl)) (λ u. (search rules, refl))) (λ t. failed)
 
   keep-right : c.wants ≡ 10 → After (take_object c w 10 (sizing 11 (with_m (c.head.m + 1) c.head) c))
   unfolding take_object
   keep-right e = let h = known k 10 c s e in
-      either After (object_of w).read (λ t. either After (eqb (c.count + 1) c.head.p) (λ u. (search rules, refl)) (λ u. (search rules, refl))) (λ t. failed)
+      either After (is_some (object_of w)) (λ t. either After (eqb (c.count + 1) c.head.p) (λ u. (search rules, refl)) (λ u. (search rules, refl))) (λ t. failed)
 
   keep-block : c.wants ≡ 11 → After (take_block c w)
   unfolding take_block
@@ -253,7 +212,7 @@ module _ (k : ℕ) (c : Card) (w : List ℕ) (s : Measured k c) where
   keep-standing : c.head.m ≤ 255 → c.head.flag ≤ 3 → c.count ≤ 255 + k → After (take_member c w)
   unfolding take_member
   keep-standing m f i = let n = s.n in let p = s.p in let y = s.readings in
-      either After ((member_of c.head w).read && eqb (member c.set (member_of c.head w).number) 0) (λ t. (search rules, refl)) (λ t. failed)
+      either After (is_some (member_of c.head w) && eqb (member c.set (unwrap_or (member_of c.head w) 0)) 0) (λ t. (search rules, refl)) (λ t. failed)
 
   keep-member : c.wants ≡ 12 → After (take_member c w)
   keep-member e = let h = known k 12 c s e in keep-standing (omega arith) (omega arith) (omega arith)
@@ -266,7 +225,7 @@ module _ (k : ℕ) (c : Card) (w : List ℕ) (s : Measured k c) where
   keep-sum : c.wants ≡ 14 → After (take_sum c w)
   unfolding take_sum
   keep-sum e = let h = known k 14 c s e in
-      either After (signed_of w).read (λ t. (search rules, refl)) (λ t. failed)
+      either After (is_some (signed_of w)) (λ t. (search rules, refl)) (λ t. failed)
 
   -- a reading, at 16 and at 17
   keep-weighed : c.head.m ≤ 255 → c.head.flag ≤ 3 → c.count ≤ 255 + k → After (take_reading c w)
@@ -392,7 +351,3 @@ kept_small {k} {c} h l = let s = h.sizes in record {
     by : (b : Bool) → c.count ≤ 255 + cond b 0 k → c.count ≤ 4294967296
     by true i = omega arith
     by false i = omega arith
-
--- a tag is a byte
-pub tag_kept : {k : ℕ} {c : Card} → Kept k c → c.wants ≡ 21 → c.count ≤ 255
-tag_kept {k} {c} h e = omega (arith, (known k 21 c h.sizes e).count)

@@ -1,22 +1,21 @@
 -- A card walked byte by byte: each byte goes on in a comment, ends a word, or goes on in one. Assumes nothing.
-use Prim.Native.Nat.{ℕ, zero, suc, ◌+◌, ◌-◌, ◌<◌, ◌≤◌}
+use Prim.Native.Nat.{ℕ, suc, ◌+◌, ◌-◌, ◌<◌, ◌≤◌}
 use mathlib.Core.Path.{◌≡◌, refl, sym, ap, ap₂, ◌∙◌}
 use mathlib.Core.List.{List, [], ◌∷◌, ◌++◌, append-nil}
-use mathlib.Core.Bool.{Bool, true, false, cond, not, ◌&&◌, ◌||◌, true≢false}
+use mathlib.Core.Bool.{Bool, true, false, cond, not, ◌||◌, true≢false}
 use native.Mathlib.Omega.{arith}
 use native.Mathlib.Numerals.{add-one}
 use lib.Dec.{eqb, ltb}
 use lib.ListN.{length, get_or, take, drop, length-take, length-drop}
 use lib.Seq.{drop-cons, drop-length, take-suc, get_or-drop}
 use Rattle.records.specs.declared.Card.{Card}
-use Rattle.algebra.specs.Buffers.{write, Wrote}
-use Rattle.meaning.specs.Card.{Word, no_card, ending, words_from, words, step, adds, within, card_of, bytes_in, word_in, card_by, bytes_by, word_by}
+use Rattle.algebra.specs.Buffers.{write}
+use Rattle.meaning.specs.Card.{Word, ending, words_from, step, adds, within, card_by, bytes_by, word_by}
 use Rattle.cards.specs.declared.reading.Walk.{Walk}
 use Rattle.cards.specs.Sizes.{Kept}
 use Rattle.cards.specs.Putting.{Puts}
 use Rattle.cards.specs.Walking.{begun, left, Ended, Turned}
 use Rattle.cards.proofs.Giving.{bad-step, puts_none, puts_named}
-use Rattle.cards.proofs.Going.{onward}
 use Rattle.cards.proofs.Keeping.{kept-later, kept_word}
 
 -- ---- a word that ends, and the words after it
@@ -176,61 +175,4 @@ module _ (s : List ℕ) (k wants len : ℕ) (walk : Walk) (body : List ℕ) wher
           start = omega arith;
         }
 
-    -- it goes on in a word
-    pub turned_on : walk.comment ≡ false → (ltb (get_or s k 0) 33 || eqb (get_or s k 0) 35) ≡ false → Kept walk.start walk.card →
-        Turned s k wants len walk body walk body
-    turned_on out byte kept =
-        let same : left s (k + 1) walk ≡ left s k walk =
-        ap₂ (λ (x : Bool) (u : List ℕ). words_from x (k + 1) u (drop (k + 1) s)) out (begun_more s walk.start k inside more)
-        ∙ sym (left_word s k more (begun s k walk) byte) ∙ ap (λ (b : Bool). words_from b k (begun s k walk) (drop k s)) (sym out) in
-        record {
-          card = ap (card_by walk.card) same;
-          at = ap (word_by wants len walk.card walk.at) same;
-          bytes = λ good. ap (λ (ws : List Word). write body walk.card.length (bytes_by walk.card ws)) same;
-          long = refl;
-          kept = kept;
-          start = omega arith;
-        }
-
-    -- it ends one
-    pub turned_end : walk.comment ≡ false → (ltb (get_or s k 0) 33 || eqb (get_or s k 0) 35) ≡ true → {e : Walk} {after : List ℕ} →
-        Ended s k wants len walk body e after → (r : Walk) → r.card ≡ e.card → r.at ≡ e.at → r.comment ≡ eqb (get_or s k 0) 35 → r.start ≡ k + 1 →
-        Turned s k wants len walk body r after
-    turned_end out byte {e} {after} ended r is at comment start =
-        let c = walk.card in
-        let w = begun s k walk in
-        let more-words = words_from (eqb (get_or s k 0) 35) (k + 1) [] (drop (k + 1) s) in
-        let first : left s (k + 1) r ≡ more-words = anew r (eqb (get_or s k 0) 35) comment start in
-        let whole : left s k walk ≡ ending k w more-words = ap (λ (b : Bool). words_from b k w (drop k s)) out ∙ left-blank s k more w byte in
-        let card : r.card ≡ card_by c (ending k w []) = is ∙ ended.card in
-        record {
-          card = (λ j. card_by (card j) (first j)) ∙ sym (card-ending k w more-words c) ∙ ap (card_by c) (sym whole);
-          at = (λ j. word_by wants len (card j) ((at ∙ ended.at) j) (first j)) ∙ sym (place-ending k w more-words wants len c walk.at)
-              ∙ ap (word_by wants len c walk.at) (sym whole);
-          bytes = λ good.
-              let fine : e.card.bad ≡ false = ap (λ (d : Card). d.bad) (sym is) ∙ good-before r.card (left s (k + 1) r) good in
-              let put = ended.bytes.bytes (ap not fine) in
-              (λ j. write after (is j).length (bytes_by (card j) (first j)))
-              ∙ onward (bytes_by (card_by c (ending k w [])) more-words) put
-              ∙ ap (write body c.length) (sym (bytes-ending k w more-words c) ∙ ap (bytes_by c) (sym whole));
-          long = ended.bytes.long;
-          kept = rw is (kept-later ended.kept (omega arith));
-          start = omega arith;
-        }
-
 -- ---- the first turn, and the end
-
-pub kept-none : Kept 0 no_card
-kept-none = record {
-  sizes = record {
-    some = omega arith;
-    last = omega arith;
-    n = omega arith;
-    flag = omega arith;
-    p = omega arith;
-    m = omega arith;
-    count = omega arith;
-    readings = omega arith;
-  };
-  length = omega arith;
-}

@@ -2,8 +2,7 @@
 use Rattle.std.specs.Prelude.{ℕ, ◌≤◌, ◌≡◌, List, length}
 use Rattle.records.specs.declared.Card.{Card}
 use Rattle.records.specs.declared.CardRead.{CardRead}
-use Rattle.records.specs.declared.Verdict.{Verdict}
-use Rattle.meaning.specs.Refusals.{refused, ◌⨾◌, room}
+use Rattle.meaning.specs.Refusals.{Verdict, refused, ◌⨾◌, room}
 use Rattle.meaning.specs.Calls.{given}
 use Rattle.meaning.specs.Edition2.{put_after}
 use Rattle.meaning.specs.Card.{card_of, bytes_in, card_file, file_verdict}

@@ -1,6 +1,5 @@
 -- A card walked byte by byte: what is left of it stays the same card, the same bytes and the same place. Assumes nothing.
 use Rattle.std.specs.Prelude.{ℕ, ◌+◌, ◌-◌, ◌≤◌, ◌≡◌, List, [], false, not, length, take, drop}
-use Rattle.records.specs.declared.Card.{Card}
 use Rattle.algebra.specs.Buffers.{write}
 use Rattle.meaning.specs.Card.{Word, ending, words_from, card_by, bytes_by, word_by}
 use Rattle.cards.specs.declared.reading.Walk.{Walk}

@@ -1,5 +1,5 @@
 // The file that a card makes: its four fields, and where it has names or other fields the edition field before them and those after them.
-ghost use Rattle.std.specs.Prelude.{◌≡◌, cond, ◌+◌, ◌*◌, ltb};
+ghost use Rattle.std.specs.Prelude.{◌≡◌, ◌+◌, ◌*◌};
 ghost use Rattle.algebra.specs.Buffers.{Wrote};
 ghost use Rattle.meaning.specs.Design.{list_length};
 ghost use Rattle.meaning.specs.Card.{field, four_fields, is_second, file_from};
@@ -10,6 +10,7 @@ use records::Card;
 use writing::{put_restraint, put_start};
 
 // Puts the file to the front of lent room, as far as that goes. `body` is what the words of the card give.
+#[tactic(auto, unfolding(meaning::specs::Card::file_from))]
 pub(crate) fn put_file(card: Card, body: &[u8], file: &mut [u8]) -> usize
     requires { Small card }
     ensures { Wrote file.old 0 (file_from card body.now) file.new result }
@@ -20,7 +21,7 @@ pub(crate) fn put_file(card: Card, body: &[u8], file: &mut [u8]) -> usize
     let edition = [16u8, 0, 1, 2];
     let start = put_text(file, 0, &edition);
     let end = put_fields(file, start, card, body);
-    let others = clamped(plain_length(card), body.len());
+    let others = plain_length(card).min(body.len());
     put_text(file, end, &body[others..])
 }
 
@@ -33,6 +34,7 @@ pub(crate) fn is_second(card: Card) -> bool
 }
 
 // The four fields from a place on.
+#[tactic(auto, unfolding(meaning::specs::Card::four_fields))]
 fn put_fields(out: &mut [u8], at: usize, card: Card, body: &[u8]) -> usize
     requires { Small card }
     ensures { Wrote out.old at (four_fields card body.now) out.new result }
@@ -40,10 +42,10 @@ fn put_fields(out: &mut [u8], at: usize, card: Card, body: &[u8]) -> usize
     let head = card.head;
     let sizes = [head.n as u8, head.flag as u8, head.p as u8, head.m as u8];
     let second = put_field(out, at, 1, &sizes);
-    let middle = clamped(blocks_length(card), body.len());
+    let middle = blocks_length(card).min(body.len());
     let third = put_field(out, second, 2, &body[..middle]);
     let fourth = put_restraint(out, third, card.set, card.sum);
-    let end = clamped(plain_length(card), body.len());
+    let end = plain_length(card).min(body.len());
     put_field(out, fourth, 4, &body[middle..end])
 }
 
@@ -70,11 +72,4 @@ fn plain_length(card: Card) -> usize
     ensures { result ≡ list_length card.head + 4 * card.readings }
 {
     blocks_length(card) + 4 * card.readings
-}
-
-// A place, or the end where it lies behind that.
-fn clamped(place: usize, end: usize) -> usize
-    ensures { result ≡ cond (ltb place end) place end }
-{
-    if place < end { place } else { end }
 }

@@ -6,41 +6,17 @@ ghost use Rattle.meaning.specs.Card.{is_hex, hex_digit, hex_byte, all_hex, hex_b
 use printing::put_byte;
 use sheets::same;
 
-// Whether a byte lies between two others.
-fn between(byte: u8, low: u8, high: u8) -> bool
-    ensures { result ≡ (leb low byte && leb byte high) }
-{
-    if byte < low {
-        return false;
-    }
-    byte <= high
-}
-
-// Whether a byte is a digit.
-pub(crate) fn is_hex(byte: u8) -> bool
-    ensures { result ≡ is_hex byte }
-{
-    if between(byte, 48, 57) {
-        return true;
-    }
-    if between(byte, 65, 70) {
-        return true;
-    }
-    between(byte, 97, 102)
-}
-
 // What a digit is worth.
+#[tactic(auto, using(crate::proofs::hexadecimal::Digits::hex_least, crate::proofs::hexadecimal::Digits::hex_capital, crate::proofs::hexadecimal::Digits::hex_small), unfolding(meaning::specs::Card::hex_digit))]
 fn hex_digit(byte: u8) -> u8
     requires { is_hex byte ≡ true }
     ensures { result ≡ hex_digit byte }
 {
-    if byte <= 57 {
-        return byte - 48;
+    match byte {
+        ..=b'9' => byte - b'0',
+        ..=b'F' => byte - b'A' + 10,
+        _ => byte - b'a' + 10,
     }
-    if byte <= 70 {
-        return byte - 55;
-    }
-    byte - 87
 }
 
 // The byte that the two digits from a place on write.
@@ -57,40 +33,23 @@ pub(crate) fn hex_byte(word: &[u8], at: usize) -> u8
 pub(crate) fn all_hex(word: &[u8]) -> bool
     ensures { result ≡ all_hex word.now }
 {
-    let mut i: usize = 0;
-    while i < word.len() {
-        if !is_hex(word[i]) {
-            return false;
-        }
-        i += 1;
-    }
-    true
+    word.iter().all(|digit| digit.is_ascii_hexdigit())
 }
 
 // Whether a word is the body of an optional field: two digits a byte, or - for no bytes.
+#[tactic(auto, unfolding(meaning::specs::Card::is_body, meaning::specs::Text::ascii))]
 pub(crate) fn is_body(word: &[u8]) -> bool
     ensures { result ≡ is_body word.now }
 {
-    if same(word, b"-") {
-        return true;
-    }
-    if word.len() % 2 != 0 {
-        return false;
-    }
-    all_hex(word)
+    same(word, b"-") || word.len() % 2 == 0 && all_hex(word)
 }
 
 // Whether a word is a tag above another one.
+#[tactic(auto, unfolding(meaning::specs::Card::is_tag))]
 pub(crate) fn is_tag(least: usize, word: &[u8]) -> bool
     ensures { result ≡ is_tag least word.now }
 {
-    if word.len() != 2 {
-        return false;
-    }
-    if !all_hex(word) {
-        return false;
-    }
-    least < hex_byte(word, 0) as usize
+    word.len() == 2 && all_hex(word) && least < usize::from(hex_byte(word, 0))
 }
 
 // The bytes that digits write, put into lent room.
@@ -99,15 +58,14 @@ fn put_hex(out: &mut [u8], at: usize, word: &[u8]) -> usize
     ensures { Wrote out.old at (hex_bytes (length word.now / 2) word.now) out.new result }
 {
     let mut place = at;
-    let mut i: usize = 0;
-    while i < word.len() {
-        place = put_byte(out, place, hex_byte(word, i));
-        i += 2;
+    for digits in word.chunks_exact(2) {
+        place = put_byte(out, place, hex_byte(digits, 0));
     }
     place
 }
 
 // How many bytes the body of an optional field has.
+#[tactic(auto, unfolding(meaning::specs::Card::body_of, meaning::specs::Text::ascii))]
 pub(crate) fn body_length(word: &[u8]) -> usize
     requires { is_body word.now ≡ true }
     ensures { result ≡ length (body_of word.now) }
@@ -119,6 +77,7 @@ pub(crate) fn body_length(word: &[u8]) -> usize
 }
 
 // The body of an optional field, put into lent room.
+#[tactic(auto, unfolding(meaning::specs::Card::body_of, meaning::specs::Text::ascii))]
 pub(crate) fn put_body(out: &mut [u8], at: usize, word: &[u8]) -> usize
     requires { is_body word.now ≡ true }
     ensures { Wrote out.old at (body_of word.now) out.new result }

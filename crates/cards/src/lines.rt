@@ -9,6 +9,7 @@ use records::Head;
 use words::holds;
 
 // The word for how elements are added.
+#[tactic(auto, unfolding(meaning::specs::Text::ascii))]
 fn put_addition(out: &mut [u8], at: usize, flag: usize) -> usize
     ensures { Wrote out.old at (ascii (cond (ltb flag 2) "residues" "field")) out.new result }
 {
@@ -29,6 +30,7 @@ pub(crate) fn put_kind(out: &mut [u8], at: usize, head: Head) -> usize
 }
 
 // Whether the fixed object takes part.
+#[tactic(auto, unfolding(meaning::specs::Text::ascii))]
 fn put_taking_part(out: &mut [u8], at: usize, flag: usize) -> usize
     ensures { Wrote out.old at (ascii (cond (eqb (flag % 2) 1) " yes" " no")) out.new result }
 {
@@ -40,6 +42,7 @@ fn put_taking_part(out: &mut [u8], at: usize, flag: usize) -> usize
 }
 
 // The line of the fixed object.
+#[tactic(auto, unfolding(meaning::specs::Text::ascii))]
 pub(crate) fn put_fixed(out: &mut [u8], at: usize, head: Head) -> usize
     ensures { Wrote out.old at (fixed_line head) out.new result }
 {
@@ -49,6 +52,7 @@ pub(crate) fn put_fixed(out: &mut [u8], at: usize, head: Head) -> usize
 }
 
 // An object of a block, a space before it.
+#[tactic(auto, unfolding(meaning::specs::Text::ascii))]
 fn put_object(out: &mut [u8], at: usize, object: u8) -> usize
     ensures { Wrote out.old at (object_text object) out.new result }
 {
@@ -64,17 +68,15 @@ fn put_side(out: &mut [u8], at: usize, head: Head, blocks: &[u8], start: usize) 
     requires { start + head.p ≤ length blocks.now }
     ensures { Wrote out.old at (side_text head blocks.now start) out.new result }
 {
-    let count = head.p;
     let mut place = at;
-    let mut i: usize = 0;
-    while i < count {
-        place = put_object(out, place, blocks[start + i]);
-        i += 1;
+    for object in &blocks[start..start + head.p] {
+        place = put_object(out, place, *object);
     }
     place
 }
 
 // Initial block k.
+#[tactic(auto, unfolding(meaning::specs::Text::ascii))]
 fn put_block(out: &mut [u8], at: usize, head: Head, blocks: &[u8], k: usize) -> usize
     requires { 2 * head.p * k + 2 * head.p ≤ length blocks.now }
     ensures { Wrote out.old at (block_line head blocks.now k) out.new result }
@@ -92,12 +94,9 @@ pub(crate) fn put_blocks(out: &mut [u8], at: usize, head: Head, blocks: &[u8]) -
     requires { 2 * head.p * head.m ≤ length blocks.now }
     ensures { Wrote out.old at (each head.m (block_line head blocks.now)) out.new result }
 {
-    let count = head.m;
     let mut place = at;
-    let mut k: usize = 0;
-    while k < count {
+    for k in 0..head.m {
         place = put_block(out, place, head, blocks, k);
-        k += 1;
     }
     place
 }
@@ -118,15 +117,14 @@ fn put_members(out: &mut [u8], at: usize, count: usize, set: u64) -> usize
     ensures { Wrote out.old at (each count (member_text set)) out.new result }
 {
     let mut place = at;
-    let mut i: usize = 0;
-    while i < count {
+    for i in 0..count {
         place = put_member(out, place, set, i);
-        i += 1;
     }
     place
 }
 
 // The restraint: its members among so many objects, and the accepted sum.
+#[tactic(auto, unfolding(meaning::specs::Text::ascii))]
 pub(crate) fn put_restraint(out: &mut [u8], at: usize, count: usize, set: u64, sum: i64) -> usize
     ensures { Wrote out.old at (line "restraint" (each count (member_text set) ++ ascii " =" ++ signed_text sum)) out.new result }
 {
@@ -150,6 +148,7 @@ fn put_break(out: &mut [u8], at: usize, n: usize, k: usize) -> usize
 }
 
 // The readings, those of an initial block on a line of their own.
+#[tactic(auto, unfolding(meaning::specs::Text::ascii))]
 pub(crate) fn put_readings(out: &mut [u8], at: usize, head: Head, readings: &[i32]) -> usize
     requires { 0 < head.n }
     ensures { Wrote out.old at
@@ -166,14 +165,10 @@ fn put_each_reading(out: &mut [u8], at: usize, head: Head, readings: &[i32]) -> 
     ensures { Wrote out.old at
         (each (length readings.now) (reading_text head readings.now)) out.new result }
 {
-    let n = head.n;
     let mut place = at;
-    let mut k: usize = 0;
-    while k < readings.len() {
-        let reading = readings[k];
-        let start = put_break(out, place, n, k);
-        place = put_signed(out, start, reading as i64);
-        k += 1;
+    for (k, reading) in readings.iter().enumerate() {
+        let start = put_break(out, place, head.n, k);
+        place = put_signed(out, start, i64::from(*reading));
     }
     place
 }

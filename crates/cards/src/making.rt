@@ -7,7 +7,7 @@ use crate::filing::{is_second, put_file};
 use crate::reading::walked;
 use job::{read, read_second};
 use printing::put_text;
-use records::{Card, CardRead, Verdict};
+use records::{Card, CardRead, Refusal, Verdict};
 use verdicts::is_refused;
 
 // A card has at most so many bytes, a file so many, and the words of a card give at most so many of them.
@@ -54,7 +54,7 @@ fn unread(place: usize, wants: usize) -> CardRead
     ensures { result ≡ unreadable place wants }
 {
     CardRead {
-        verdict: Verdict::Refused(19, place),
+        verdict: Err(Refusal { number: 19, place }),
         wants,
         length: 0,
     }
@@ -64,10 +64,7 @@ fn unread(place: usize, wants: usize) -> CardRead
 fn may_end(card: Card) -> bool
     ensures { result ≡ is_whole card }
 {
-    if card.wants == 17 {
-        return true;
-    }
-    card.wants == 19
+    card.wants == 17 || card.wants == 19
 }
 
 // The last word before which at most so much was wanted and so many bytes were given.
@@ -89,6 +86,7 @@ fn make_file(card: &[u8], seen: Card, body: &[u8], out: &mut [u8]) -> CardRead
     let mut file = [0u8; FILE_LIMIT];
     let length = put_file(seen, body, &mut file);
     let verdict = file_refusal(card, seen, &file[..length], out.len());
+    // A refusal hands back zeros beside its verdict.
     if is_refused(verdict) {
         return CardRead {
             verdict,
@@ -109,14 +107,14 @@ fn file_refusal(card: &[u8], seen: Card, file: &[u8], space: usize) -> Verdict
     requires { Filed card.now seen file.now }
     ensures { result ≡ filing card.now space }
 {
-    let verdict = file_verdict(card, seen, file);
-    if is_refused(verdict) {
-        return verdict;
-    }
+    file_verdict(card, seen, file)?;
     if space < file.len() {
-        return Verdict::Refused(10, 0);
+        return Err(Refusal {
+            number: 10,
+            place: 0,
+        });
     }
-    Verdict::Accepted
+    Ok(())
 }
 
 // The tests of the file.
@@ -125,14 +123,9 @@ fn file_verdict(card: &[u8], seen: Card, file: &[u8]) -> Verdict
     ensures { result ≡ file_verdict card.now }
 {
     if is_second(seen) {
-        let second = read_second(file);
-        let job = second.job;
-        let verdict = job.verdict;
-        return moved_to(card, START_AT, verdict);
+        return moved_to(card, START_AT, read_second(file).job.verdict);
     }
-    let first = read(file);
-    let verdict = first.verdict;
-    moved_to(card, 0, verdict)
+    moved_to(card, 0, read(file).verdict)
 }
 
 // A refusal of the file, moved to the word that it speaks of.
@@ -140,57 +133,36 @@ fn moved_to(card: &[u8], start: usize, verdict: Verdict) -> Verdict
     requires { length card.now ≤ 65536 }
     ensures { result ≡ moved_to card.now start verdict }
 {
-    match verdict {
-        Verdict::Accepted => Verdict::Accepted,
-        Verdict::Refused(number, place) => {
-            let word = word_of(
-                card,
-                wants_for(number),
-                bytes_before(number, less(place, start)),
-            );
-            Verdict::Refused(number, word)
-        }
-    }
+    verdict.map_err(|why| Refusal {
+        place: word_of(
+            card,
+            wants_for(why.number),
+            bytes_before(why.number, why.place.saturating_sub(start)),
+        ),
+        ..why
+    })
 }
 
 // What is wanted before the word that a refusal speaks of, at most.
 fn wants_for(number: u8) -> usize
     ensures { result ≡ wants_for number }
 {
-    if number == 4 {
-        return 1;
+    match number {
+        4 => 1,
+        6 => 5,
+        7 | 11 => 11,
+        3 => 15,
+        _ => LAST_WANTED,
     }
-    if number == 6 {
-        return 5;
-    }
-    if number == 7 {
-        return 11;
-    }
-    if number == 11 {
-        return 11;
-    }
-    if number == 3 {
-        return 15;
-    }
-    LAST_WANTED
 }
 
 // How many bytes are given before that word, at most: for an object and for a reading those before its place in the file, without the starts of the fields.
 fn bytes_before(number: u8, place: usize) -> usize
     ensures { result ≡ bytes_before number place }
 {
-    if number == 5 {
-        return less(place, 10);
+    match number {
+        5 => place.saturating_sub(10),
+        8 => place.saturating_sub(32),
+        _ => FILE_LIMIT,
     }
-    if number == 8 {
-        return less(place, 32);
-    }
-    FILE_LIMIT
-}
-
-// A difference, 0 where it would be below that.
-fn less(a: usize, b: usize) -> usize
-    ensures { result ≡ a - b }
-{
-    if a < b { 0 } else { a - b }
 }

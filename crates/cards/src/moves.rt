@@ -32,16 +32,10 @@ pub(crate) fn no_card() -> Card
 pub(crate) fn next(wants: usize, card: Card) -> Card
     ensures { result ≡ next wants card }
 {
-    let head = card.head;
     Card {
         wants,
         bad: false,
-        head,
-        count: card.count,
-        set: card.set,
-        sum: card.sum,
-        readings: card.readings,
-        length: card.length,
+        ..card
     }
 }
 
@@ -49,17 +43,7 @@ pub(crate) fn next(wants: usize, card: Card) -> Card
 pub(crate) fn fail(card: Card) -> Card
     ensures { result ≡ fail card }
 {
-    let head = card.head;
-    Card {
-        wants: card.wants,
-        bad: true,
-        head,
-        count: card.count,
-        set: card.set,
-        sum: card.sum,
-        readings: card.readings,
-        length: card.length,
-    }
+    Card { bad: true, ..card }
 }
 
 // Other sizes.
@@ -70,11 +54,7 @@ pub(crate) fn sizing(wants: usize, head: Head, card: Card) -> Card
         wants,
         bad: false,
         head,
-        count: card.count,
-        set: card.set,
-        sum: card.sum,
-        readings: card.readings,
-        length: card.length,
+        ..card
     }
 }
 
@@ -82,16 +62,11 @@ pub(crate) fn sizing(wants: usize, head: Head, card: Card) -> Card
 pub(crate) fn counting(wants: usize, count: usize, card: Card) -> Card
     ensures { result ≡ counting wants count card }
 {
-    let head = card.head;
     Card {
         wants,
         bad: false,
-        head,
         count,
-        set: card.set,
-        sum: card.sum,
-        readings: card.readings,
-        length: card.length,
+        ..card
     }
 }
 
@@ -107,16 +82,11 @@ pub(crate) fn with_object(set: u64, object: usize) -> u64
 pub(crate) fn standing(set: u64, card: Card) -> Card
     ensures { result ≡ with_set set card }
 {
-    let head = card.head;
     Card {
         wants: 13,
         bad: false,
-        head,
-        count: card.count,
         set,
-        sum: card.sum,
-        readings: card.readings,
-        length: card.length,
+        ..card
     }
 }
 
@@ -124,16 +94,11 @@ pub(crate) fn standing(set: u64, card: Card) -> Card
 pub(crate) fn summing(sum: i64, card: Card) -> Card
     ensures { result ≡ summing sum card }
 {
-    let head = card.head;
     Card {
         wants: 15,
         bad: false,
-        head,
-        count: card.count,
-        set: card.set,
         sum,
-        readings: card.readings,
-        length: card.length,
+        ..card
     }
 }
 
@@ -142,16 +107,11 @@ pub(crate) fn weighed(card: Card) -> Card
     requires { card.readings < 18446744073709551615 }
     ensures { result ≡ weighed card }
 {
-    let head = card.head;
     Card {
         wants: 17,
         bad: false,
-        head,
-        count: card.count,
-        set: card.set,
-        sum: card.sum,
         readings: card.readings + 1,
-        length: card.length,
+        ..card
     }
 }
 
@@ -160,16 +120,9 @@ pub(crate) fn longer(bytes: usize, card: Card) -> Card
     requires { card.length + bytes < 18446744073709551615 }
     ensures { result ≡ longer bytes card }
 {
-    let head = card.head;
     Card {
-        wants: card.wants,
-        bad: card.bad,
-        head,
-        count: card.count,
-        set: card.set,
-        sum: card.sum,
-        readings: card.readings,
         length: card.length + bytes,
+        ..card
     }
 }
 
@@ -177,43 +130,23 @@ pub(crate) fn longer(bytes: usize, card: Card) -> Card
 pub(crate) fn with_n(n: usize, head: Head) -> Head
     ensures { result ≡ with_n n head }
 {
-    Head {
-        n,
-        flag: head.flag,
-        p: head.p,
-        m: head.m,
-    }
+    Head { n, ..head }
 }
 
 pub(crate) fn with_flag(flag: usize, head: Head) -> Head
     ensures { result ≡ with_flag flag head }
 {
-    Head {
-        n: head.n,
-        flag,
-        p: head.p,
-        m: head.m,
-    }
+    Head { flag, ..head }
 }
 
 pub(crate) fn with_p(p: usize, head: Head) -> Head
     ensures { result ≡ with_p p head }
 {
-    Head {
-        n: head.n,
-        flag: head.flag,
-        p,
-        m: head.m,
-    }
+    Head { p, ..head }
 }
 
 pub(crate) fn with_m(m: usize, head: Head) -> Head
     ensures { result ≡ with_m m head }
 {
-    Head {
-        n: head.n,
-        flag: head.flag,
-        p: head.p,
-        m,
-    }
+    Head { m, ..head }
 }

@@ -4,37 +4,28 @@ ghost use Rattle.algebra.specs.Buffers.{Wrote};
 ghost use Rattle.meaning.specs.Card.{is_escape, is_name, name_of};
 ghost use Rattle.cards.specs.Names.{byte_end, byte_at};
 
-use crate::hexadecimal::{hex_byte, is_hex};
+use crate::hexadecimal::hex_byte;
+use numbers::byte;
 use printing::put_byte;
 
-// The backslash that starts a byte in base 16.
-const BACKSLASH: u8 = 92;
+// A name has at most so many bytes.
+const NAME_LENGTH: usize = 8;
 
-// The byte at a place; 0 behind the end.
-fn byte_of(word: &[u8], at: usize) -> u8
-    ensures { result ≡ get_or word.now at 0 }
-{
-    if at < word.len() {
-        return word[at];
-    }
-    0
-}
+// The backslash that starts a byte in base 16.
+const BACKSLASH: u8 = b'\\';
 
 // Whether an x and two digits stand from a place on.
 fn is_escape(word: &[u8], at: usize) -> bool
     requires { at ≤ 65536 }
     ensures { result ≡ is_escape (drop at word.now) }
 {
-    if byte_of(word, at) != 120 {
-        return false;
-    }
-    if !is_hex(byte_of(word, at + 1)) {
-        return false;
-    }
-    is_hex(byte_of(word, at + 2))
+    byte(word, at) == b'x'
+        && byte(word, at + 1).is_ascii_hexdigit()
+        && byte(word, at + 2).is_ascii_hexdigit()
 }
 
 // Where the byte of a name ends that is written at a place; that place where none is.
+#[tactic(auto, unfolding(crate::specs::Names::byte_end))]
 fn byte_end(word: &[u8], at: usize) -> usize
     requires { length word.now ≤ 65536 }
     ensures { result ≡ byte_end word.now at }
@@ -60,8 +51,7 @@ pub(crate) fn is_name(word: &[u8]) -> bool
     ensures { result ≡ is_name 8 word.now }
 {
     let mut at: usize = 0;
-    let mut k: usize = 0;
-    while k < 8 {
+    for _ in 0..NAME_LENGTH {
         if word.len() <= at {
             return true;
         }
@@ -70,12 +60,12 @@ pub(crate) fn is_name(word: &[u8]) -> bool
             return false;
         }
         at = next;
-        k += 1;
     }
     at == word.len()
 }
 
 // The byte of a name that is written at a place; behind the end a space.
+#[tactic(auto, unfolding(crate::specs::Names::byte_at))]
 fn byte_at(word: &[u8], at: usize) -> u8
     requires { (length word.now ≤ 65536) × (at < length word.now → at < byte_end word.now at) }
     ensures { result ≡ byte_at word.now at }
@@ -96,11 +86,9 @@ pub(crate) fn put_name(out: &mut [u8], start: usize, word: &[u8]) -> usize
 {
     let mut place = start;
     let mut at: usize = 0;
-    let mut k: usize = 0;
-    while k < 8 {
+    for _ in 0..NAME_LENGTH {
         place = put_byte(out, place, byte_at(word, at));
         at = byte_end(word, at);
-        k += 1;
     }
     place
 }

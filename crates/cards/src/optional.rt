@@ -4,25 +4,18 @@ ghost use Rattle.std.specs.Prelude.{◌∷◌, ◌≡◌, ◌+◌, ◌*◌, ◌�
 ghost use Rattle.algebra.specs.Buffers.{Wrote};
 ghost use Rattle.meaning.specs.Text.{each, name_text};
 ghost use Rattle.meaning.specs.CardText.{name_at, body_text, hex_texts, other_line, other_lines};
-ghost use Rattle.cards.specs.Printed.{least, names_from};
+ghost use Rattle.cards.specs.Printed.{names_from};
 
 use numbers::{byte, two_bytes};
 use printing::{put_byte, put_hex, put_name, put_text};
-
-// The lower of two places.
-pub(crate) fn lower(place: usize, end: usize) -> usize
-    ensures { result ≡ least place end }
-{
-    if end < place { end } else { place }
-}
 
 // The name that starts at a place, a space before it.
 fn put_name_at(out: &mut [u8], at: usize, file: &[u8], place: usize) -> usize
     requires { place ≤ 32768 }
     ensures { Wrote out.old at (32 ∷ name_text (take 8 (drop place file.now))) out.new result }
 {
-    let start = lower(place, file.len());
-    let end = lower(place + 8, file.len());
+    let start = place.min(file.len());
+    let end = (place + 8).min(file.len());
     let next = put_byte(out, at, 32);
     put_name(out, next, &file[start..end])
 }
@@ -33,10 +26,8 @@ fn put_each_name(out: &mut [u8], at: usize, file: &[u8], start: usize, count: us
     ensures { Wrote out.old at (each count (λ i. 32 ∷ name_text (name_at file.now start i))) out.new result }
 {
     let mut place = at;
-    let mut i: usize = 0;
-    while i < count {
+    for i in 0..count {
         place = put_name_at(out, place, file, start + 8 * i);
-        i += 1;
     }
     place
 }
@@ -59,19 +50,18 @@ fn put_hex_texts(out: &mut [u8], at: usize, bytes: &[u8]) -> usize
     ensures { Wrote out.old at (hex_texts bytes.now) out.new result }
 {
     let mut place = at;
-    let mut i: usize = 0;
-    while i < bytes.len() {
-        place = put_hex(out, place, bytes[i]);
-        i += 1;
+    for byte in bytes {
+        place = put_hex(out, place, *byte);
     }
     place
 }
 
 // The bytes of a field, - where there are none.
+#[tactic(auto, unfolding(meaning::specs::Text::ascii))]
 fn put_body(out: &mut [u8], at: usize, body: &[u8]) -> usize
     ensures { Wrote out.old at (body_text body.now) out.new result }
 {
-    if body.len() == 0 {
+    if body.is_empty() {
         put_text(out, at, b"-")
     } else {
         put_hex_texts(out, at, body)
@@ -79,13 +69,14 @@ fn put_body(out: &mut [u8], at: usize, body: &[u8]) -> usize
 }
 
 // The field at a place: its tag and its bytes.
+#[tactic(auto, unfolding(meaning::specs::Text::ascii))]
 fn put_other(out: &mut [u8], at: usize, file: &[u8], place: usize) -> usize
     requires { place ≤ 16384 }
     ensures { Wrote out.old at (other_line file.now place) out.new result }
 {
-    let told = two_bytes(file, place + 1) as usize;
-    let start = lower(place + 3, file.len());
-    let end = lower(place + 3 + told, file.len());
+    let told = usize::from(two_bytes(file, place + 1));
+    let start = (place + 3).min(file.len());
+    let end = (place + 3 + told).min(file.len());
     let word_end = put_text(out, at, b"other ");
     let tag_end = put_hex(out, word_end, byte(file, place));
     let space_end = put_byte(out, tag_end, 32);
@@ -98,11 +89,12 @@ pub(crate) fn put_others(out: &mut [u8], at: usize, file: &[u8], start: usize) -
     requires { length file.now ≤ 16384 }
     ensures { Wrote out.old at (other_lines (length file.now) file.now start) out.new result }
 {
+    // The fields are walked: each tells where the next one starts.
     let mut place = at;
     let mut field = start;
     while field < file.len() {
         place = put_other(out, place, file, field);
-        field = field + 3 + two_bytes(file, field + 1) as usize;
+        field = field + 3 + usize::from(two_bytes(file, field + 1));
     }
     place
 }

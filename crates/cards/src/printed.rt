@@ -10,13 +10,13 @@ ghost use Rattle.design.specs.Within.{within};
 ghost use Rattle.cards.specs.Printed.{names_from, Printable, printed_text};
 
 use crate::lines::{put_blocks, put_fixed, put_kind, put_readings, put_restraint};
-use crate::optional::{lower, put_names, put_others};
+use crate::optional::{put_names, put_others};
 use design::objects;
 use fields::{four_end, held};
 use job::{read, read_second};
 use listing::put_refused;
 use numbers::readings;
-use records::{Head, Listed, Verdict};
+use records::{Head, Listed, Refusal, Verdict};
 
 // The place after the edition field, where the four fields of a file of the second edition start.
 const START_AT: usize = 4;
@@ -44,8 +44,8 @@ pub fn card_of_second(bytes: &[u8], out: &mut [u8]) -> Listed
     let head = job.head;
     let end = four_end(bytes);
     let others = others_at(head, names, end);
-    let start = lower(START_AT, bytes.len());
-    let stop = lower(end, bytes.len());
+    let start = START_AT.min(bytes.len());
+    let stop = end.min(bytes.len());
     render(verdict, &bytes[start..stop], bytes, names, others, out)
 }
 
@@ -78,18 +78,22 @@ fn render(
     let length = put_printed(&mut one, 0, verdict, four, file, names, others);
     if out.len() < length {
         return Listed {
-            verdict: Verdict::Refused(10, 0),
+            verdict: Err(Refusal {
+                number: 10,
+                place: 0,
+            }),
             length: 0,
         };
     }
     put_printed(out, 0, verdict, four, file, names, others);
     Listed {
-        verdict: Verdict::Accepted,
+        verdict: Ok(()),
         length,
     }
 }
 
 // The card, or the line of the refusal.
+#[tactic(auto, unfolding(crate::specs::Printed::printed_text))]
 fn put_printed(
     out: &mut [u8],
     at: usize,
@@ -103,8 +107,8 @@ fn put_printed(
     ensures { Wrote out.old at (printed_text verdict four.now file.now names others) out.new result }
 {
     match verdict {
-        Verdict::Accepted => put_accepted(out, at, four, file, names, others),
-        Verdict::Refused(number, place) => put_refused(out, at, number, place),
+        Ok(()) => put_accepted(out, at, four, file, names, others),
+        Err(Refusal { number, place }) => put_refused(out, at, number, place),
     }
 }
 

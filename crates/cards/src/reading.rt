@@ -40,16 +40,11 @@ fn take_word(card: Card, word: &[u8], body: &mut [u8], k: usize) -> Card
 fn place_of(card: Card, wants: usize, len: usize, at: usize, start: usize) -> usize
     ensures { result ≡ cond (within wants len card) start at }
 {
-    if card.bad {
-        return at;
+    if !card.bad && card.wants <= wants && card.length <= len {
+        start
+    } else {
+        at
     }
-    if wants < card.wants {
-        return at;
-    }
-    if len < card.length {
-        return at;
-    }
-    start
 }
 
 // The word that ends before place k, where there is one.
@@ -67,8 +62,7 @@ fn end_word(walk: Walk, text: &[u8], k: usize, wants: usize, len: usize, body: &
     Walk {
         card: after,
         at,
-        comment: walk.comment,
-        start,
+        ..walk
     }
 }
 
@@ -78,23 +72,19 @@ fn turn(walk: Walk, text: &[u8], k: usize, wants: usize, len: usize, body: &mut 
     ensures { Turned text.now k wants len walk body.old result body.new }
 {
     let byte = text[k];
-    let card = walk.card;
     if walk.comment {
         return Walk {
-            card,
-            at: walk.at,
-            comment: byte != 10,
+            comment: byte != b'\n',
             start: k + 1,
+            ..walk
         };
     }
     if ends_word(byte) {
         let ended = end_word(walk, text, k, wants, len, body);
-        let after = ended.card;
         return Walk {
-            card: after,
-            at: ended.at,
-            comment: byte == 35,
+            comment: byte == b'#',
             start: k + 1,
+            ..ended
         };
     }
     walk
@@ -104,10 +94,7 @@ fn turn(walk: Walk, text: &[u8], k: usize, wants: usize, len: usize, body: &mut 
 fn ends_word(byte: u8) -> bool
     ensures { result ≡ (ltb byte 33 || eqb byte 35) }
 {
-    if byte < 33 {
-        return true;
-    }
-    byte == 35
+    byte < 33 || byte == b'#'
 }
 
 // A whole card, its bytes, and the last word within the limits.
@@ -125,10 +112,8 @@ pub(crate) fn walked(text: &[u8], wants: usize, len: usize, body: &mut [u8]) -> 
         comment: false,
         start: 0,
     };
-    let mut k: usize = 0;
-    while k < text.len() {
+    for k in 0..text.len() {
         walk = turn(walk, text, k, wants, len, body);
-        k += 1;
     }
-    end_word(walk, text, k, wants, len, body)
+    end_word(walk, text, text.len(), wants, len, body)
 }

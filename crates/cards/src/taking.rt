@@ -16,16 +16,17 @@ use sheets::{number, same, signed};
 use words::holds;
 
 // A word that is to be this one.
-fn expect(card: Card, word: &[u8], text: &[u8], wants: usize) -> Card
-    ensures { result ≡ expect card word.now text.now (next wants card) }
+fn expect(card: Card, word: &[u8], text: &[u8], after: Card) -> Card
+    ensures { result ≡ expect card word.now text.now after }
 {
     if same(word, text) {
-        return next(wants, card);
+        return after;
     }
     fail(card)
 }
 
 // residues or field.
+#[tactic(auto, unfolding(meaning::specs::Card::take_kind, meaning::specs::Text::ascii))]
 fn take_kind(card: Card, word: &[u8]) -> Card
     ensures { result ≡ take_kind card word.now }
 {
@@ -33,25 +34,24 @@ fn take_kind(card: Card, word: &[u8]) -> Card
         return next(2, card);
     }
     if same(word, b"field") {
-        let head = card.head;
-        return sizing(2, with_flag(2, head), card);
+        return sizing(2, with_flag(2, card.head), card);
     }
     fail(card)
 }
 
 // The number of elements.
+#[tactic(auto, unfolding(meaning::specs::Card::take_size))]
 fn take_size(card: Card, word: &[u8]) -> Card
     ensures { result ≡ take_size card word.now }
 {
-    let elements = number(word, 255);
-    if !elements.read {
+    let Some(elements) = number(word, 255) else {
         return fail(card);
-    }
-    let head = card.head;
-    sizing(3, with_n(elements.number as usize, head), card)
+    };
+    sizing(3, with_n(elements as usize, card.head), card)
 }
 
 // yes or no.
+#[tactic(auto, unfolding(meaning::specs::Card::take_fixed, meaning::specs::Text::ascii))]
 fn take_fixed(card: Card, word: &[u8]) -> Card
     requires { Small card }
     ensures { result ≡ take_fixed card word.now }
@@ -60,28 +60,27 @@ fn take_fixed(card: Card, word: &[u8]) -> Card
         return next(5, card);
     }
     if same(word, b"yes") {
-        let head = card.head;
-        return sizing(5, with_flag(head.flag + 1, head), card);
+        return sizing(5, with_flag(card.head.flag + 1, card.head), card);
     }
     fail(card)
 }
 
 // An object of the first left side.
+#[tactic(auto, unfolding(meaning::specs::Card::take_first))]
 fn take_first(card: Card, word: &[u8]) -> Card
     ensures { result ≡ take_first card word.now }
 {
-    let object = object_of(word);
-    if !object.read {
+    if object_of(word).is_none() {
         return fail(card);
     }
-    let head = card.head;
-    if head.p < 255 {
-        return sizing(7, with_p(head.p + 1, head), card);
+    if card.head.p < 255 {
+        return sizing(7, with_p(card.head.p + 1, card.head), card);
     }
     fail(next(22, card))
 }
 
 // An object of it, or |.
+#[tactic(auto, unfolding(meaning::specs::Card::take_more, meaning::specs::Text::ascii))]
 fn take_more(card: Card, word: &[u8]) -> Card
     ensures { result ≡ take_more card word.now }
 {
@@ -91,30 +90,27 @@ fn take_more(card: Card, word: &[u8]) -> Card
     take_first(card, word)
 }
 
+// An object of a side after the first: `after` is the card where it is the last of its side.
+#[tactic(auto, unfolding(meaning::specs::Card::take_object))]
+fn take_object(card: Card, word: &[u8], wants: usize, after: Card) -> Card
+    requires { Small card }
+    ensures { result ≡ take_object card word.now wants after }
+{
+    if object_of(word).is_none() {
+        return fail(card);
+    }
+    if card.count + 1 == card.head.p {
+        return after;
+    }
+    counting(wants, card.count + 1, card)
+}
+
 // An object of a later left side.
 fn take_left(card: Card, word: &[u8]) -> Card
     requires { Small card }
     ensures { result ≡ take_object card word.now 8 (next 9 card) }
 {
-    let object = object_of(word);
-    if !object.read {
-        return fail(card);
-    }
-    let head = card.head;
-    if card.count + 1 == head.p {
-        return next(9, card);
-    }
-    counting(8, card.count + 1, card)
-}
-
-// The | between the two sides of a block.
-fn take_middle(card: Card, word: &[u8]) -> Card
-    ensures { result ≡ expect card word.now (ascii "|") (counting 10 0 card) }
-{
-    if same(word, b"|") {
-        return counting(10, 0, card);
-    }
-    fail(card)
+    take_object(card, word, 8, next(9, card))
 }
 
 // An object of a right side: the last one ends its block.
@@ -122,41 +118,37 @@ fn take_right(card: Card, word: &[u8]) -> Card
     requires { Small card }
     ensures { result ≡ take_object card word.now 10 (sizing 11 (with_m (card.head.m + 1) card.head) card) }
 {
-    let object = object_of(word);
-    if !object.read {
-        return fail(card);
-    }
-    let head = card.head;
-    if card.count + 1 == head.p {
-        return sizing(11, with_m(head.m + 1, head), card);
-    }
-    counting(10, card.count + 1, card)
+    take_object(
+        card,
+        word,
+        10,
+        sizing(11, with_m(card.head.m + 1, card.head), card),
+    )
 }
 
 // Another block, or the restraint.
+#[tactic(auto, unfolding(meaning::specs::Card::take_block, meaning::specs::Text::ascii))]
 fn take_block(card: Card, word: &[u8]) -> Card
     ensures { result ≡ take_block card word.now }
 {
     if same(word, b"initial") {
-        let head = card.head;
-        if head.m < 255 {
+        if card.head.m < 255 {
             return counting(8, 0, card);
         }
         return fail(next(22, card));
     }
-    expect(card, word, b"restraint", 12)
+    expect(card, word, b"restraint", next(12, card))
 }
 
 // An object of the restraint.
+#[tactic(auto, unfolding(meaning::specs::Card::take_member))]
 fn take_member(card: Card, word: &[u8]) -> Card
     ensures { result ≡ take_member card word.now }
 {
-    let head = card.head;
-    let object = member_of(head, word);
-    if !object.read {
+    let Some(object) = member_of(card.head, word) else {
         return fail(card);
-    }
-    let place = object.number as usize;
+    };
+    let place = object as usize;
     if holds(card.set, place) != 0 {
         return fail(card);
     }
@@ -164,6 +156,7 @@ fn take_member(card: Card, word: &[u8]) -> Card
 }
 
 // An object of it, or =.
+#[tactic(auto, unfolding(meaning::specs::Card::take_standard, meaning::specs::Text::ascii))]
 fn take_standard(card: Card, word: &[u8]) -> Card
     ensures { result ≡ take_standard card word.now }
 {
@@ -174,17 +167,18 @@ fn take_standard(card: Card, word: &[u8]) -> Card
 }
 
 // The accepted sum.
+#[tactic(auto, unfolding(meaning::specs::Card::take_sum))]
 fn take_sum(card: Card, word: &[u8]) -> Card
     ensures { result ≡ take_sum card word.now }
 {
-    let sum = signed(word);
-    if sum.read {
-        return summing(sum.number, card);
+    match signed(word) {
+        Some(sum) => summing(sum, card),
+        None => fail(card),
     }
-    fail(card)
 }
 
 // A reading.
+#[tactic(auto, unfolding(meaning::specs::Card::take_reading))]
 fn take_reading(card: Card, word: &[u8]) -> Card
     requires { Small card }
     ensures { result ≡ take_reading card word.now }
@@ -196,13 +190,13 @@ fn take_reading(card: Card, word: &[u8]) -> Card
 }
 
 // A reading, names or other.
+#[tactic(auto, unfolding(meaning::specs::Card::take_after, meaning::specs::Text::ascii))]
 fn take_after(card: Card, word: &[u8]) -> Card
     requires { Small card }
     ensures { result ≡ take_after card word.now }
 {
     if same(word, b"names") {
-        let head = card.head;
-        if head.n + head.flag % 2 == 0 {
+        if card.head.n + card.head.flag % 2 == 0 {
             return counting(19, 128, card);
         }
         return counting(18, 0, card);
@@ -214,6 +208,7 @@ fn take_after(card: Card, word: &[u8]) -> Card
 }
 
 // A name.
+#[tactic(auto, unfolding(meaning::specs::Card::take_name))]
 fn take_name(card: Card, word: &[u8]) -> Card
     requires { (Small card) × (length word.now ≤ 65536) }
     ensures { result ≡ take_name card word.now }
@@ -221,14 +216,14 @@ fn take_name(card: Card, word: &[u8]) -> Card
     if !is_name(word) {
         return fail(card);
     }
-    let head = card.head;
-    if card.count + 1 == head.n + head.flag % 2 {
+    if card.count + 1 == card.head.n + card.head.flag % 2 {
         return counting(19, 128, card);
     }
     counting(18, card.count + 1, card)
 }
 
 // A tag.
+#[tactic(auto, unfolding(meaning::specs::Card::take_tag))]
 fn take_tag(card: Card, word: &[u8]) -> Card
     ensures { result ≡ take_tag card word.now }
 {
@@ -239,6 +234,7 @@ fn take_tag(card: Card, word: &[u8]) -> Card
 }
 
 // The bytes of an optional field.
+#[tactic(auto, unfolding(meaning::specs::Card::take_bytes))]
 fn take_bytes(card: Card, word: &[u8]) -> Card
     ensures { result ≡ take_bytes card word.now }
 {
@@ -248,97 +244,33 @@ fn take_bytes(card: Card, word: &[u8]) -> Card
     fail(card)
 }
 
-// What is wanted up to the first block.
-fn take_early(card: Card, word: &[u8]) -> Card
-    requires { (Small card) × (1 ≤ card.wants) × (card.wants ≤ 7) }
-    ensures { result ≡ taken card word.now }
-{
-    let wants = card.wants;
-    if wants == 1 {
-        return take_kind(card, word);
-    }
-    if wants == 2 {
-        return take_size(card, word);
-    }
-    if wants == 3 {
-        return expect(card, word, b"fixed", 4);
-    }
-    if wants == 4 {
-        return take_fixed(card, word);
-    }
-    if wants == 5 {
-        return expect(card, word, b"initial", 6);
-    }
-    if wants == 6 {
-        return take_first(card, word);
-    }
-    take_more(card, word)
-}
-
-// What is wanted up to the accepted sum.
-fn take_middling(card: Card, word: &[u8]) -> Card
-    requires { (Small card) × (8 ≤ card.wants) × (card.wants ≤ 14) }
-    ensures { result ≡ taken card word.now }
-{
-    let wants = card.wants;
-    if wants == 8 {
-        return take_left(card, word);
-    }
-    if wants == 9 {
-        return take_middle(card, word);
-    }
-    if wants == 10 {
-        return take_right(card, word);
-    }
-    if wants == 11 {
-        return take_block(card, word);
-    }
-    if wants == 12 {
-        return take_member(card, word);
-    }
-    if wants == 13 {
-        return take_standard(card, word);
-    }
-    take_sum(card, word)
-}
-
-// What is wanted from the readings on.
-fn take_late(card: Card, word: &[u8]) -> Card
-    requires { (Small card) × (length word.now ≤ 65536) × (15 ≤ card.wants) × (card.wants ≤ 21) }
-    ensures { result ≡ taken card word.now }
-{
-    let wants = card.wants;
-    if wants == 15 {
-        return expect(card, word, b"readings", 16);
-    }
-    if wants == 16 {
-        return take_reading(card, word);
-    }
-    if wants == 17 {
-        return take_after(card, word);
-    }
-    if wants == 18 {
-        return take_name(card, word);
-    }
-    if wants == 19 {
-        return expect(card, word, b"other", 20);
-    }
-    if wants == 20 {
-        return take_tag(card, word);
-    }
-    take_bytes(card, word)
-}
-
 // A word by what it is to be.
+#[tactic(auto, unfolding(meaning::specs::Card::taken, meaning::specs::Text::ascii))]
 pub(crate) fn taken(card: Card, word: &[u8]) -> Card
     requires { (Small card) × (length word.now ≤ 65536) × (1 ≤ card.wants) × (card.wants ≤ 21) }
     ensures { result ≡ taken card word.now }
 {
-    if card.wants < 8 {
-        return take_early(card, word);
+    match card.wants {
+        1 => take_kind(card, word),
+        2 => take_size(card, word),
+        3 => expect(card, word, b"fixed", next(4, card)),
+        4 => take_fixed(card, word),
+        5 => expect(card, word, b"initial", next(6, card)),
+        6 => take_first(card, word),
+        7 => take_more(card, word),
+        8 => take_left(card, word),
+        9 => expect(card, word, b"|", counting(10, 0, card)),
+        10 => take_right(card, word),
+        11 => take_block(card, word),
+        12 => take_member(card, word),
+        13 => take_standard(card, word),
+        14 => take_sum(card, word),
+        15 => expect(card, word, b"readings", next(16, card)),
+        16 => take_reading(card, word),
+        17 => take_after(card, word),
+        18 => take_name(card, word),
+        19 => expect(card, word, b"other", next(20, card)),
+        20 => take_tag(card, word),
+        _ => take_bytes(card, word),
     }
-    if card.wants < 15 {
-        return take_middling(card, word);
-    }
-    take_late(card, word)
 }

@@ -7,35 +7,36 @@ ghost use Rattle.cards.specs.Sizes.{Small, Kept};
 
 use crate::hexadecimal::{body_length, is_body, put_body};
 use crate::names::{is_name, put_name};
-use crate::numerals::{is_reading, object_of};
+use crate::numerals::{is_int32, object_of};
 use printing::{bits, put_byte, put_bytes};
 use records::Card;
 use sheets::{same, signed};
 use writing::put_start;
 
 // An object, one byte.
+#[tactic(auto, unfolding(meaning::specs::Card::object_bytes))]
 fn put_object(out: &mut [u8], at: usize, card: Card, word: &[u8]) -> usize
     ensures { Wrote out.old at (object_bytes card word.now) out.new result }
 {
-    let object = object_of(word);
-    if object.read {
-        return put_byte(out, at, object.number as u8);
+    match object_of(word) {
+        Some(object) => put_byte(out, at, object as u8),
+        None => at,
     }
-    at
 }
 
 // A reading, four bytes.
+#[tactic(auto, unfolding(meaning::specs::Card::reading_bytes, meaning::specs::Card::is_reading))]
 fn put_reading(out: &mut [u8], at: usize, card: Card, word: &[u8]) -> usize
     ensures { Wrote out.old at (reading_bytes card word.now) out.new result }
 {
-    if is_reading(word) {
-        let reading = signed(word);
-        return put_bytes(out, at, 4, bits(reading.number));
+    match signed(word) {
+        Some(number) if is_int32(number) => put_bytes(out, at, 4, bits(number)),
+        _ => at,
     }
-    at
 }
 
 // The start of the names' field, or a reading.
+#[tactic(auto, unfolding(meaning::specs::Card::after_bytes, meaning::specs::Text::ascii))]
 fn put_after(out: &mut [u8], at: usize, card: Card, word: &[u8]) -> usize
     requires { Small card }
     ensures { Wrote out.old at (after_bytes card word.now) out.new result }
@@ -59,6 +60,7 @@ fn put_named(out: &mut [u8], at: usize, word: &[u8]) -> usize
 }
 
 // Another optional field, whose tag was counted.
+#[tactic(auto, unfolding(meaning::specs::Card::field_bytes))]
 fn put_field(out: &mut [u8], at: usize, card: Card, word: &[u8]) -> usize
     requires { card.count ≤ 255 }
     ensures { Wrote out.old at (field_bytes card word.now) out.new result }
@@ -75,24 +77,12 @@ pub(crate) fn put_word(out: &mut [u8], at: usize, card: Card, word: &[u8], k: us
     requires { (Kept k card) × (k ≤ 65536) × (length word.now ≤ 65536) × (at ≤ 4294967296) }
     ensures { Puts (not (taken card word.now).bad) out.old at (given_bytes card word.now) out.new result }
 {
-    let wants = card.wants;
-    if wants == 16 {
-        return put_reading(out, at, card, word);
+    match card.wants {
+        6..=10 => put_object(out, at, card, word),
+        16 => put_reading(out, at, card, word),
+        17 => put_after(out, at, card, word),
+        18 => put_named(out, at, word),
+        21 => put_field(out, at, card, word),
+        _ => at,
     }
-    if wants == 17 {
-        return put_after(out, at, card, word);
-    }
-    if wants == 18 {
-        return put_named(out, at, word);
-    }
-    if wants == 21 {
-        return put_field(out, at, card, word);
-    }
-    if wants < 6 {
-        return at;
-    }
-    if 10 < wants {
-        return at;
-    }
-    put_object(out, at, card, word)
 }

@@ -4,6 +4,7 @@
 --     against-object, against-spread   the answer by what is found
 --     against_ext      the answer for hundredths that agree
 -- Assumes nothing.
+use Rattle.std.proofs.Common.{Option}
 use Prim.Native.Nat.{ℕ, zero, suc, ◌+◌, ◌≤◌, ◌<◌}
 use mathlib.Core.Path.{◌≡◌, refl, sym, ap, ap₂, subst, ◌∙◌}
 use mathlib.Core.Bool.{Bool, true, false, cond, not, false≢true}
@@ -15,7 +16,6 @@ use lib.IntN.{ℤ, pos, negsuc}
 use Rattle.algebra.specs.Ranges.{first_from, eq_z}
 use Rattle.algebra.proofs.Tests.{first_from_none, first_bounds, first-before, first-is}
 use Rattle.records.specs.declared.Spread.{Spread}
-use Rattle.records.specs.declared.Checked.{Checked}
 use Rattle.meaning.specs.Sheet.{claim, differs_at, against, agrees, differs, same_spread}
 
 -- ---- whole numbers that are equal, and that differ
@@ -63,14 +63,14 @@ firsts_agree p q i (suc c) e =
 -- ---- the first object that differs
 
 module _ (v : ℕ) (f : ℕ → ℤ) (claims : List ℤ) where
-  abbrev off : ℕ → Bool
+  abbrev pub off : ℕ → Bool
   off i = not (eq_z (claim claims i) (f i))
 
   -- where a claim is right, and where it differs
-  off-right : (i : ℕ) → claim claims i ≡ f i → off i ≡ false
+  pub off-right : (i : ℕ) → claim claims i ≡ f i → off i ≡ false
   off-right i e = ap not (eq_z-same (claim claims i) (f i) e)
 
-  off-differs : (i : ℕ) → (claim claims i ≡ f i → ⊥) → off i ≡ true
+  pub off-differs : (i : ℕ) → (claim claims i ≡ f i → ⊥) → off i ≡ true
   off-differs i n = ap not (eq_z_differ (claim claims i) (f i) n)
 
   right-off : (i : ℕ) → off i ≡ false → claim claims i ≡ f i
@@ -107,7 +107,7 @@ module _ (v : ℕ) (f : ℕ → ℤ) (claims : List ℤ) where
 
 -- ---- the answer
 
-module _ (v : ℕ) (f : ℕ → ℤ) (spread : Spread) (claims : List ℤ) (claimed : Spread) (at : ℕ) (is : at ≡ differs_at v f claims) where
+module _ (v : ℕ) (f : ℕ → ℤ) (spread : Option Spread) (claims : List ℤ) (claimed : Option Spread) (at : ℕ) (is : at ≡ differs_at v f claims) where
   -- an object differs
   pub against-object : at < v → differs at ≡ against v f spread claims claimed
   unfolding against
@@ -123,7 +123,7 @@ module _ (v : ℕ) (f : ℕ → ℤ) (spread : Spread) (claims : List ℤ) (clai
       (le-ltb (differs_at v f claims) v (subst (λ (n : ℕ). v ≤ n) is l)) e)
 
 -- for hundredths that agree over the objects it is the same
-pub against_ext : (v : ℕ) (f g : ℕ → ℤ) (spread : Spread) (claims : List ℤ) (claimed : Spread) → ((i : ℕ) → i < v → f i ≡ g i) →
+pub against_ext : (v : ℕ) (f g : ℕ → ℤ) (spread : Option Spread) (claims : List ℤ) (claimed : Option Spread) → ((i : ℕ) → i < v → f i ≡ g i) →
     against v f spread claims claimed ≡ against v g spread claims claimed
 unfolding against differs_at
 against_ext v f g spread claims claimed e =

@@ -9,10 +9,9 @@ use lib.Dec.{leb, ltb}
 use lib.IntN.{ℤ}
 use lib.ListN.{length}
 use Rattle.records.specs.declared.Head.{Head}
-use Rattle.records.specs.declared.Verdict.{Verdict}
 use Rattle.meaning.specs.Design.{objects, blocks}
 use Rattle.meaning.specs.Analysis.{numerator_of, deviation_of}
-use Rattle.meaning.specs.Refusals.{accepted, ◌⨾◌}
+use Rattle.meaning.specs.Refusals.{Verdict, accepted, ◌⨾◌}
 use Rattle.meaning.specs.Calls.{
   written,
   word_at,

@@ -1,13 +1,12 @@
 -- A well-formed job is accepted exactly if its design is balanced: every test but the sixth accepts it, and that one decides balance. Assumes nothing.
+use Rattle.std.proofs.Common.{Ok, Err}
 use mathlib.Core.Path.{◌≡◌, refl, sym, ap, ◌∙◌}
 use mathlib.Core.Bool.{Bool, true, false}
 use mathlib.Core.Logic.{◌↔◌}
 use mathlib.Core.List.{List}
 use Prim.Native.Nat.{ℕ}
-use Rattle.records.specs.declared.Verdict.{Verdict}
-use Rattle.records.specs.declared.Verdict.TheVariants.{Accepted, Refused}
 use Rattle.meaning.specs.Design.{balanced}
-use Rattle.meaning.specs.Refusals.{accepted, refused, ◌⨾◌}
+use Rattle.meaning.specs.Refusals.{Verdict, accepted, refused, ◌⨾◌}
 use Rattle.meaning.specs.Calls.{design_verdict, judge_verdict, slices, contents, job_verdict, readings_verdict}
 use Rattle.meaning.specs.File.{fields, placed, read_verdict}
 use Rattle.laws.proofs.Chains.{opened, held, test_yes, accepts, goes_on, accepted-last, job, sliced, slices_sound, sound_accepted, judged_sound}
@@ -93,8 +92,8 @@ unfolding readings_verdict job_verdict contents
 no_restraint j fits two = rw (fits, two) (same (slices j.head j.initial j.readings) (five j) (six j) (eight j))
   where
     same : (a b c e : Verdict) → a ⨾ b ⨾ c ⨾ e ≡ a ⨾ (b ⨾ c ⨾ accepted ⨾ e)
-    same Accepted b c e = ap (λ (v : Verdict). v ⨾ e) (sym (accepted-last (b ⨾ c)))
-    same (Refused k at) b c e = refl
+    same (Ok done) b c e = ap (λ (v : Verdict). v ⨾ e) (sym (accepted-last (b ⨾ c)))
+    same (Err why) b c e = refl
 
 -- ---- a file
 

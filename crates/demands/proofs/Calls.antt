@@ -1,4 +1,5 @@
 -- The direct calls: each one's tests as a flat row, and what it leaves and hands back, refused and accepted. Assumes nothing.
+use Rattle.std.proofs.Common.{Ok, Err}
 use mathlib.Core.Path.{◌≡◌, refl, ap, ◌∙◌}
 use mathlib.Core.Bool.{true}
 use Prim.Native.Nat.{ℕ, ◌+◌, ◌*◌, ◌^◌, ◌≤◌, ◌<◌}
@@ -8,10 +9,8 @@ use lib.Dec.{ltb}
 use lib.IntN.{nat_abs}
 use lib.ListN.{length}
 use Rattle.algebra.proofs.Tests.{and_both, first_from_none}
-use Rattle.records.specs.declared.Verdict.{Verdict}
-use Rattle.records.specs.declared.Verdict.TheVariants.{Accepted, Refused}
 use Rattle.meaning.specs.Analysis.{reading}
-use Rattle.meaning.specs.Refusals.{◌⨾◌, reading_limit, sum_limit, far_reading}
+use Rattle.meaning.specs.Refusals.{Verdict, ◌⨾◌, reading_limit, sum_limit, far_reading}
 use Rattle.meaning.specs.Calls.{
   design_verdict,
   develop_verdict,
@@ -38,16 +37,16 @@ use Rattle.demands.specs.Calls.{Demand1Calls}
 
 -- tests after others, taken out of their chain
 two_out : (a b c : Verdict) → a ⨾ (b ⨾ c) ≡ a ⨾ b ⨾ c
-two_out Accepted b c = refl
-two_out (Refused k at) b c = refl
+two_out (Ok done) b c = refl
+two_out (Err why) b c = refl
 
 pub four-out : (a b c e g f : Verdict) → a ⨾ (b ⨾ c ⨾ (e ⨾ g) ⨾ f) ≡ a ⨾ b ⨾ c ⨾ e ⨾ g ⨾ f
-four-out Accepted b c e g f = ap (λ (v : Verdict). v ⨾ f) (two_out (b ⨾ c) e g)
-four-out (Refused k at) b c e g f = refl
+four-out (Ok done) b c e g f = ap (λ (v : Verdict). v ⨾ f) (two_out (b ⨾ c) e g)
+four-out (Err why) b c e g f = refl
 
 pub three-out : (a b c e : Verdict) → a ⨾ (b ⨾ c ⨾ e) ≡ a ⨾ b ⨾ c ⨾ e
-three-out Accepted b c e = refl
-three-out (Refused k at) b c e = refl
+three-out (Ok done) b c e = refl
+three-out (Err why) b c e = refl
 
 -- a whole job: 4, 3, 3, 5, 6, 7, 11, 8
 pub job_flat : (j : Job) → verdict_of j ≡ four j ⨾ three_blocks j ⨾ three_readings j ⨾ five j ⨾ six j ⨾ seven j ⨾ eleven j ⨾ eight j

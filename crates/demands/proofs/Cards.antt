@@ -6,7 +6,6 @@ use Prim.Native.Nat.{ℕ, zero, suc, ◌≤◌, ◌<◌}
 use native.Mathlib.Omega.{arith}
 use lib.Dec.{eqb, ltb}
 use borrow.Author.Tests.{lt-ltb, le-ltb, ne_eqb, ltb-true, ltb-false, eqb-true, eqb-false}
-use Rattle.records.specs.declared.Verdict.{Verdict}
 use Rattle.meaning.specs.CardText.{card_under, card_text_of, card_under2, card_text_of2}
 use Rattle.laws.proofs.CardsWords.{
   plain,
@@ -48,6 +47,7 @@ use Rattle.demands.specs.Cards.{
   CardsOfFiles,
   CardsOfSecondFiles,
 }
+use Rattle.meaning.specs.Refusals.{Verdict}
 
 -- ---- the tests of the laws
 

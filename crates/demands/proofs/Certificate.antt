@@ -1,4 +1,5 @@
 -- An accepted job keeps what is said of its standard uncertainties, and every file what is said of its certificate. Assumes nothing.
+use Rattle.std.proofs.Common.{Ok, None, Err}
 use mathlib.Core.Path.{◌≡◌, refl, ap}
 use mathlib.Core.List.{List}
 use Prim.Native.Nat.{ℕ, zero, suc, ◌-◌, ◌*◌, ◌^◌, ◌≤◌, ◌<◌}
@@ -8,18 +9,16 @@ use lib.Dec.{ltb, lit<}
 use borrow.Author.Tests.{lt-ltb}
 use lib.IntN.{pos, ◌*ℤ◌}
 use lib.ListN.{length}
-use Rattle.records.specs.declared.Verdict.{Verdict}
-use Rattle.records.specs.declared.Verdict.TheVariants.{Accepted, Refused}
-use Rattle.records.specs.declared.Uncertainty.TheVariants.{Stated, Unstated}
 use Rattle.meaning.specs.Design.{objects}
 use Rattle.meaning.specs.Analysis.{member, restrained, vbeta, denominator_of, factor, qOf, freedom}
 use Rattle.meaning.specs.Publishing.{published, float, Near}
-use Rattle.meaning.specs.Refusals.{◌⨾◌, accepted, clean, in_balance, restraint, in_reach}
+use Rattle.meaning.specs.Refusals.{Verdict, ◌⨾◌, accepted, clean, in_balance, restraint, in_reach}
 use Rattle.meaning.specs.Calls.{slices, contents, job_verdict, value_verdict}
 use Rattle.meaning.specs.File.{head_of, blocks_of, readings_of, set_of, sum_of, read_verdict}
 use Rattle.meaning.specs.Text.{text_of}
 use Rattle.meaning.specs.Edition2.{four_of, names_at, read_verdict2, text_of2}
 use Rattle.meaning.specs.Certificate.{
+  states,
   least_over,
   uncertainty_hundredths,
   stated_with,
@@ -57,11 +56,11 @@ hundredths_free Q e vb zero c l = absurd (omega arith)
 hundredths_free Q e vb (suc f) c l = refl
 
 -- the enum by f
-stated_free : (k f : ℕ) → 0 < f → stated_with k f ≡ Stated k (float (pos k) 100)
+stated_free : (k f : ℕ) → 0 < f → stated_with k f ≡ states k (float (pos k) 100)
 stated_free k zero l = absurd (omega arith)
 stated_free k (suc f) l = refl
 
-stated-none : (k f : ℕ) → f ≡ 0 → stated_with k f ≡ Unstated
+stated-none : (k f : ℕ) → f ≡ 0 → stated_with k f ≡ None
 stated-none k f e = ap (stated_with k) e
 
 module _ (j : Job) (e : verdict_of j ≡ accepted) where
@@ -90,14 +89,14 @@ module _ (j : Job) (e : verdict_of j ≡ accepted) where
     no_lesser : (i : ℕ) → 0 < u j i → reach j (u j i - 1) < asked j i
     no_lesser i o = rw (u_is i) (least-least (asked j i) _ some (few i) (rw (u_is i) at o))
 
-    stated : (i : ℕ) → uncertainty_of h d y w i ≡ Stated (u j i) (float (pos (u j i)) 100)
+    stated : (i : ℕ) → uncertainty_of h d y w i ≡ states (u j i) (float (pos (u j i)) 100)
     unfolding uncertainty_of
     stated i = stated_free (u j i) (freedom h) l
 
     near : (i : ℕ) → Near 53 (float (pos (u j i)) 100) (pos (u j i)) 100
     near i = float-near (pos (u j i)) 100 (hundredths-small _ _ _ _ _ (range i) l) (omega arith) (omega arith)
 
-  none : (i : ℕ) → freedom h ≡ 0 → uncertainty_of h d y w i ≡ Unstated
+  none : (i : ℕ) → freedom h ≡ 0 → uncertainty_of h d y w i ≡ None
   unfolding uncertainty_of
   none i f = stated-none (u j i) (freedom h) f
 
@@ -118,7 +117,7 @@ module _ (j : Job) (e : verdict_of j ≡ accepted) where
     none = none;
     stated = λ i l. stated l i;
     near = λ i l. near l i;
-    handed_out = λ i l. given_yes (value_verdict h d y w M i) (uncertainty_of h d y w i) Unstated (valued i l);
+    handed_out = λ i l. given_yes (value_verdict h d y w M i) (uncertainty_of h d y w i) None (valued i l);
   }
 
   pub adds_up_lem : restrained (v j) w (published h d y w M) ≡ pos 100 *ℤ M
@@ -144,18 +143,18 @@ pub uncertainty_refused : (j : Job) → UncertaintyRefused j
 uncertainty_refused j = record {
   as_the_value = λ i. refl;
   states_nothing = λ i k at e. given_no (value_verdict j.head j.initial j.readings j.set j.sum i)
-      (uncertainty_of j.head j.initial j.readings j.set i) Unstated k at e;
+      (uncertainty_of j.head j.initial j.readings j.set i) None k at e;
 }
 
 -- ---- certificates
 
 -- the text for the four fields of a file, with names of any file
 short : (four s : List ℕ) (at : ℕ) (x : Verdict) → (x ≡ accepted → read_verdict four ≡ accepted) → length (certificate_under x four (name_from s at)) ≤ 8192
-short four s at Accepted e =
+short four s at (Ok done) e =
     let a = (file-job four (e refl)).1 in
     certificate_most (head_of four) (blocks_of four) (readings_of four) (set_of four) (sum_of four) (name_from s at)
     (good (job_in four) a).measures.design.sizes.objects-most (columns_stand (job_in four) a s at)
-short four s at (Refused k place) e = omega (arith, refused-length k place)
+short four s at (Err why) e = omega (arith, refused-length why.number why.place)
 
 pub certificates_of : (s : List ℕ) → Certificates s
 unfolding certificate_of certificate_of2 text_of text_of2

@@ -1,5 +1,6 @@
 -- How wide the cells of a certificate are: none is wider than its column, so every line of a weight has the same width; and how long the whole is. Assumes
 -- nothing.
+use Rattle.std.proofs.Common.{Some, Option, None}
 use mathlib.Core.Path.{◌≡◌, refl}
 use mathlib.Core.Bool.{Bool, true, false, cond, not, ◌&&◌}
 use mathlib.Core.List.{List, [], ◌∷◌, ◌++◌}
@@ -11,9 +12,7 @@ use lib.ListN.{length, length-append, length-take}
 use Rattle.records.specs.declared.Head.{Head}
 use Rattle.records.specs.declared.Parameters.{Parameters}
 use Rattle.records.specs.declared.Spread.{Spread}
-use Rattle.records.specs.declared.Spread.TheVariants.{Of, None}
 use Rattle.records.specs.declared.Uncertainty.{Uncertainty}
-use Rattle.records.specs.declared.Uncertainty.TheVariants.{Stated, Unstated}
 use Rattle.meaning.specs.Design.{objects, parameters_of}
 use Rattle.meaning.specs.Analysis.{member, restrained}
 use Rattle.meaning.specs.Publishing.{published}
@@ -108,18 +107,18 @@ standard_few m = by (eqb m 1)
     by false = omega arith
 
 -- the hundredths of a standard uncertainty, 0 where none is stated
-abbrev pub hundredths_in : Uncertainty → ℕ
-hundredths_in (Stated u x) = u
-hundredths_in Unstated = 0
+abbrev pub hundredths_in : Option Uncertainty → ℕ
+hundredths_in (Some u) = u.hundredths
+hundredths_in None = 0
 
-uncertainty_few : (u : Uncertainty) → hundredths_in u < 10 ^ 18 → length (uncertainty_text u) ≤ 22
+uncertainty_few : (u : Option Uncertainty) → hundredths_in u < 10 ^ 18 → length (uncertainty_text u) ≤ 22
 unfolding ascii
-uncertainty_few (Stated u x) h = omega (arith, decimals_few u h)
-uncertainty_few Unstated h = omega arith
+uncertainty_few (Some u) h = omega (arith, decimals_few u.hundredths h)
+uncertainty_few None h = omega arith
 
 -- ---- the line of a weight
 
-pub line-wide : (i : ℕ) (name : List ℕ) (m : ℕ) (hundredths : ℤ) (u : Uncertainty) → i < 50 → length name ≤ 32 → nat_abs hundredths < 10 ^ 18 →
+pub line-wide : (i : ℕ) (name : List ℕ) (m : ℕ) (hundredths : ℤ) (u : Option Uncertainty) → i < 50 → length name ≤ 32 → nat_abs hundredths < 10 ^ 18 →
     hundredths_in u < 10 ^ 18 → length (weight_line i name m hundredths u) ≡ 96
 line-wide i name m hundredths u a b c e =
     let object = left-wide 8 (digits 20 i) (omega (arith, digits-few 1 i (omega arith))) in
@@ -144,9 +143,9 @@ counts-most : (z : ℤ) → length (counts_text z) ≤ 24
 counts-most (pos n) = omega (arith, decimals_most n)
 counts-most (negsuc n) = omega (arith, decimals_most (suc n))
 
-spread-most : (t : Spread) (k : ℕ) → length (spread_text t k) ≤ 24
+spread-most : (t : Option Spread) (k : ℕ) → length (spread_text t k) ≤ 24
 unfolding ascii
-spread-most (Of x f) k = omega (arith, decimals_most k)
+spread-most (Some spread) k = omega (arith, decimals_most k)
 spread-most None k = omega arith
 
 -- a figure after its words

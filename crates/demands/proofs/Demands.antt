@@ -23,6 +23,7 @@
 --     words_of_cards, comments_and_spacing                      specs/Cards     comments and spacing change nothing
 --     cards_of_files, cards_of_second_files                     specs/Cards     the card that is printed for a file reads as that file
 -- Assumes nothing.
+use Rattle.std.proofs.Common.{Option}
 use mathlib.Core.List.{List}
 use mathlib.Core.Path.{refl, ap}
 use Prim.Native.Nat.{ℕ}
@@ -31,7 +32,6 @@ use lib.ListN.{length, drop}
 use lib.Seq.{take_at, drop_at}
 use Rattle.records.specs.declared.Head.{Head}
 use Rattle.records.specs.declared.Spread.{Spread}
-use Rattle.records.specs.declared.Verdict.{Verdict}
 use Rattle.meaning.specs.File.{head_of, blocks_of, readings_of, set_of, sum_of, read_verdict, solve_verdict}
 use Rattle.meaning.specs.Text.{text_under, text_of}
 use Rattle.laws.proofs.Chains.{job}
@@ -77,6 +77,7 @@ use Rattle.demands.proofs.Cards.{card-words, card_spacing, card_of_file, card_of
 use Rattle.demands.proofs.Pooled as pooling
 use Rattle.demands.specs.Differences.{FasterCheck}
 use Rattle.demands.proofs.Differences.{faster_check}
+use Rattle.meaning.specs.Refusals.{Verdict}
 
 pub demand_1 : (s : List ℕ) → Demand1 s
 unfolding text_of
@@ -185,13 +186,13 @@ sums_of_deviations = deviations-added
 pub sums_of_deviations_in_files : (s : List ℕ) → SumsOfDeviationsIn s
 sums_of_deviations_in_files s e = deviations-added (job_in s) (file-job s e).1
 
-pub sheets_of_parts : (j : Job) (claims : List ℤ) (claimed : Spread) → SheetOfParts j claims claimed
+pub sheets_of_parts : (j : Job) (claims : List ℤ) (claimed : Option Spread) → SheetOfParts j claims claimed
 sheets_of_parts = sheet_of_parts
 
-pub sheets_of_files : (s : List ℕ) (claims : List ℤ) (claimed : Spread) → SheetOfFile s claims claimed
+pub sheets_of_files : (s : List ℕ) (claims : List ℤ) (claimed : Option Spread) → SheetOfFile s claims claimed
 sheets_of_files = sheet_of_file
 
-pub sheets_of_second_files : (s : List ℕ) (claims : List ℤ) (claimed : Spread) → SheetOfSecond s claims claimed
+pub sheets_of_second_files : (s : List ℕ) (claims : List ℤ) (claimed : Option Spread) → SheetOfSecond s claims claimed
 sheets_of_second_files = sheet_of_second
 
 pub the_generator : (start : ℕ) → Generator start

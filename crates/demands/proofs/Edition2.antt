@@ -1,4 +1,5 @@
 -- Files moved from one edition to the other, as the request has it. Assumes nothing.
+use Rattle.std.proofs.Common.{Ok, Err}
 use mathlib.Core.Path.{◌≡◌, refl, sym, ap, subst, ◌∙◌}
 use mathlib.Core.List.{List}
 use Prim.Native.Nat.{ℕ, zero, suc, ◌+◌, ◌*◌, ◌≤◌, ◌<◌}
@@ -8,9 +9,7 @@ use borrow.Author.Tests.{le-leb, lt-leb, leb-true, eq-eqb, ne_eqb}
 use lib.Dec.{eqb, leb}
 use lib.ListN.{length, get_or, take, drop, length-drop, get_or-eq_default}
 use lib.Seq.{take_at, drop_at, length-take-le}
-use Rattle.records.specs.declared.Verdict.{Verdict}
-use Rattle.records.specs.declared.Verdict.TheVariants.{Accepted, Refused}
-use Rattle.meaning.specs.Refusals.{accepted, test, ◌⨾◌, room}
+use Rattle.meaning.specs.Refusals.{Verdict, accepted, test, ◌⨾◌, room}
 use Rattle.meaning.specs.File.{big, field_verdict, fields, read_verdict}
 use Rattle.meaning.specs.Text.{text_under, text_of}
 use Rattle.meaning.specs.Edition2.{
@@ -66,8 +65,8 @@ put-later v file out e = rw e (drop_at file (drop (length file) out) (length fil
 
 -- a chain is read from either end
 joined : (a b c : Verdict) → a ⨾ (b ⨾ c) ≡ a ⨾ b ⨾ c
-joined Accepted b c = refl
-joined (Refused k at) b c = refl
+joined (Ok done) b c = refl
+joined (Err why) b c = refl
 
 -- ---- a file of the first edition
 

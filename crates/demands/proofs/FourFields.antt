@@ -1,5 +1,6 @@
 -- The four fields of a file of the second edition, looked at in the file itself, from its fifth byte on: every test and every place by four bytes later, and
 -- no test for bytes after them. Assumes nothing.
+use Rattle.std.proofs.Common.{Ok, Err}
 use mathlib.Core.Path.{◌≡◌, refl, sym, ap, ◌∙◌}
 use mathlib.Core.Bool.{Bool, true, false}
 use mathlib.Core.List.{List, [], ◌∷◌}
@@ -11,10 +12,8 @@ use lib.Dec.{eqb, leb}
 use lib.ListN.{length, get_or, take, drop, length-drop}
 use lib.Seq.{get_or-take, get_or-drop}
 use Rattle.records.specs.declared.Head.{Head}
-use Rattle.records.specs.declared.Verdict.{Verdict}
-use Rattle.records.specs.declared.Verdict.TheVariants.{Accepted, Refused}
 use Rattle.meaning.specs.Design.{blocks, sized, list_length}
-use Rattle.meaning.specs.Refusals.{test, ◌⨾◌, sizes}
+use Rattle.meaning.specs.Refusals.{Verdict, test, ◌⨾◌, sizes}
 use Rattle.meaning.specs.File.{big, field_verdict, head_of, end_at, fields}
 use Rattle.meaning.specs.Edition2.{four_of, moved_on}
 use Rattle.laws.proofs.Chains.{opened, test_yes}
@@ -135,14 +134,14 @@ module _ (s : List ℕ) (long : 4 ≤ length s) where
   no_nine = by_head_lem ∙ by (chain h) refl
     where
       by : (v : Verdict) → chain h ≡ v → v ⨾ test (eqb (end h) (length (take N (drop 4 s)))) 9 (end h) ≡ v
-      by Accepted e =
+      by (Ok done) e =
           let front = field_verdict (take N (drop 4 s)) 0 1 4 ⨾ sizes h ⨾ field_verdict (take N (drop 4 s)) 7 2 (list_length h)
           ⨾ field_verdict (take N (drop 4 s)) (10 + list_length h) 3 16 in
           let last = field_verdict (take N (drop 4 s)) (10 + list_length h + 3 + 16) 4 (4 * blocks h) in
           let f = fielded (take N (drop 4 s)) (10 + list_length h + 3 + 16) 4 (4 * blocks h) (opened front last e).1 in
           let same : end h ≡ length (take N (drop 4 s)) = omega (arith, f.inside, part-short N (drop 4 s)) in
           test_yes (eqb (end h) (length (take N (drop 4 s)))) 9 (end h) (eq-eqb (end h) (length (take N (drop 4 s))) same)
-      by (Refused k at) e = refl
+      by (Err why) e = refl
 
   moved-field : (at tag len : ℕ) → at + 3 + len ≤ N → moved_on (field_verdict (take N (drop 4 s)) at tag len) ≡ field_verdict s (4 + at) tag len
   moved-field at tag len l = ap moved_on (field_cut N (drop 4 s) at tag len l) ∙ field-later at tag len

@@ -12,11 +12,10 @@ use Rattle.algebra.specs.Buffers.{over}
 use Rattle.algebra.proofs.Filling.{get_d_over}
 use Rattle.algebra.proofs.Tests.{and_left, and_right}
 use Rattle.records.specs.declared.Head.{Head}
-use Rattle.records.specs.declared.Verdict.{Verdict}
 use Rattle.records.specs.declared.GroupCounts.{GroupCounts}
 use Rattle.records.specs.declared.GroupParameters.{GroupParameters}
 use Rattle.meaning.specs.Design.{objects, blocks, list_length, occ, left, right, company, opposition, beta, balanced}
-use Rattle.meaning.specs.Refusals.{accepted, test, ◌⨾◌, sizes, length_is, clean, in_balance, room}
+use Rattle.meaning.specs.Refusals.{Verdict, accepted, test, ◌⨾◌, sizes, length_is, clean, in_balance, room}
 use Rattle.meaning.specs.Calls.{given, word}
 use Rattle.meaning.specs.Groups.{
   left_of,

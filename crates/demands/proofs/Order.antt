@@ -1,5 +1,6 @@
 -- The verdict of a file as one flat row of tests, in file order; that each of them refuses by a listed number at a listed place; and where a reader stands
 -- meanwhile. Assumes nothing.
+use Rattle.std.proofs.Common.{Ok, Err}
 use mathlib.Core.Path.{◌≡◌, refl, sym, ◌∙◌, ap, subst, subst₂}
 use mathlib.Core.Logic.{inl, inr}
 use mathlib.Core.Bool.{Bool, true, false}
@@ -12,11 +13,9 @@ use lib.ListN.{get_or, drop, length, length-take}
 use borrow.Author.Tests.{eqb-false, lt-leb}
 use Rattle.algebra.specs.Ranges.{first_from}
 use Rattle.algebra.proofs.Tests.{first_bounds}
-use Rattle.records.specs.declared.Verdict.{Verdict}
-use Rattle.records.specs.declared.Verdict.TheVariants.{Accepted, Refused}
 use Rattle.meaning.specs.Design.{blocks, sized, list_length, balanced}
 use Rattle.meaning.specs.Analysis.{reading}
-use Rattle.meaning.specs.Refusals.{accepted, refused, number, place, test, ◌⨾◌, reading_limit, offends, offender, far_reading}
+use Rattle.meaning.specs.Refusals.{Verdict, accepted, refused, number, place, test, ◌⨾◌, reading_limit, offends, offender, far_reading}
 use Rattle.meaning.specs.Calls.{contents, rooms}
 use Rattle.meaning.specs.File.{
   big,
@@ -67,20 +66,20 @@ use Rattle.demands.specs.Demand1.{Reader}
 -- a field's tests after others, taken out of their field
 field_flat : (a : Verdict) (s : List ℕ) (at tag len : ℕ) → a ⨾ field_verdict s at tag len ≡ a ⨾ start s at ⨾ tagged s at tag ⨾ long s at len ⨾ body s at len
 unfolding field_verdict
-field_flat Accepted s at tag len = refl
-field_flat (Refused k place) s at tag len = refl
+field_flat (Ok done) s at tag len = refl
+field_flat (Err why) s at tag len = refl
 
 -- the tests of what a file holds after others, moved to their places
 contents_flat : (a : Verdict) (s : List ℕ) (t5 t6 t7 t11 t8 : Bool) (i k : ℕ) →
     a ⨾ placed s (test t5 5 i ⨾ test t6 6 0 ⨾ (test t7 7 0 ⨾ test t11 11 0) ⨾ test t8 8 k)
     ≡ a ⨾ test t5 5 (blocks_at + i) ⨾ test t6 6 0 ⨾ test t7 7 (third_at s) ⨾ test t11 11 (third_at s) ⨾ test t8 8 (readings_at s + 4 * k)
-contents_flat (Refused n place) s t5 t6 t7 t11 t8 i k = refl
-contents_flat Accepted s false t6 t7 t11 t8 i k = refl
-contents_flat Accepted s true false t7 t11 t8 i k = refl
-contents_flat Accepted s true true false t11 t8 i k = refl
-contents_flat Accepted s true true true false t8 i k = refl
-contents_flat Accepted s true true true true false i k = refl
-contents_flat Accepted s true true true true true i k = refl
+contents_flat (Err why) s t5 t6 t7 t11 t8 i k = refl
+contents_flat (Ok done) s false t6 t7 t11 t8 i k = refl
+contents_flat (Ok done) s true false t7 t11 t8 i k = refl
+contents_flat (Ok done) s true true false t11 t8 i k = refl
+contents_flat (Ok done) s true true true false t8 i k = refl
+contents_flat (Ok done) s true true true true false i k = refl
+contents_flat (Ok done) s true true true true true i k = refl
 
 module _ (s : List ℕ) where
   -- the tests up to the first field with its sizes, up to the second, up to the third, and all four with 9 after them
@@ -129,8 +128,8 @@ module _ (s : List ℕ) where
       ∙ ap (λ (a : Verdict). a ⨾ ten words (2 * b (job_in s)) ⨾ ten values (v (job_in s)) ⨾ ten deviations (b (job_in s))) file-order
     where
       out : (a b c e : Verdict) → a ⨾ (b ⨾ c ⨾ e) ≡ a ⨾ b ⨾ c ⨾ e
-      out Accepted b c e = refl
-      out (Refused k at) b c e = refl
+      out (Ok done) b c e = refl
+      out (Err why) b c e = refl
 
 -- ---- every refusal is listed
 
@@ -140,8 +139,8 @@ Lists s verdict = (k at : ℕ) → verdict ≡ refused k at → Listed s k at
 
 -- a verdict that refuses by nothing else ends
 ends : (s : List ℕ) (a : Verdict) → Lists s a → Ends s a
-ends s Accepted l = inl refl
-ends s (Refused k at) l = inr (k, at, refl, l k at refl)
+ends s (Ok done) l = inl refl
+ends s (Err why) l = inr (why.number, why.place, refl, l why.number why.place refl)
 
 -- one test, and one chain after another
 lists_test : (s : List ℕ) (t : Bool) (k at : ℕ) → (t ≡ false → Listed s k at) → Lists s (test t k at)
@@ -149,8 +148,8 @@ lists_test s true k at l n there e = refused_is_not n there (sym e)
 lists_test s false k at l n there e = subst₂ (Listed s) (ap number e) (ap place e) (l refl)
 
 lists_then : (s : List ℕ) (a b : Verdict) → Lists s a → Lists s b → Lists s (a ⨾ b)
-lists_then s Accepted b p q = q
-lists_then s (Refused k at) b p q = p
+lists_then s (Ok done) b p q = q
+lists_then s (Err why) b p q = p
 
 -- the tests of a field after others
 lists_field : (s : List ℕ) (a : Verdict) (at tag len : ℕ) → FieldStart s at → Lists s a →

@@ -9,10 +9,9 @@ use native.Mathlib.Omega.{arith}
 use lib.IntN.{pos, nat_abs}
 use Rattle.algebra.specs.Tables.{entry}
 use Rattle.records.specs.declared.Head.{Head}
-use Rattle.records.specs.declared.Spread.TheVariants.{Of}
 use Rattle.meaning.specs.Design.{objects, blocks, occ, left, right, company, opposition, balanced}
 use Rattle.meaning.specs.Analysis.{member, numerator_of, denominator_of, difference, deviation_of, spread_hundredths_of, freedom}
-use Rattle.meaning.specs.Publishing.{float, no_spread, spread_of, spread_freedom}
+use Rattle.meaning.specs.Publishing.{spreads, float, no_spread, spread_of, spread_freedom}
 use Rattle.meaning.specs.Refusals.{accepted}
 use Rattle.meaning.specs.Calls.{given, word_at, design_verdict, no_table, table_of, judge_verdict}
 use Rattle.laws.proofs.Chains.{given_yes, Sound, sound, sound_accepted, accepts, test_yes, judged_sound, Job as Accepted, job}
@@ -65,7 +64,7 @@ module _ (h : Head) (d : List ℕ) (e : design_verdict h d ≡ accepted) (f : �
 -- ---- the spread as it is handed out
 
 -- where there is a degree of freedom it holds k / 100 and the degrees
-spread-some : (k f : ℕ) → 0 < f → spread_of k f ≡ Of (float (pos k) 100) f
+spread-some : (k f : ℕ) → 0 < f → spread_of k f ≡ spreads (float (pos k) 100) f
 spread-some k zero l = absurd (none l)
   where
     none : 0 < 0 → ⊥

@@ -1,5 +1,6 @@
 -- The pooled spread as the page says it. Files laid end to end are cut into themselves again, so the answer is that of the list of jobs; where all are good
 -- and have one v and beta it is made of two sums over the list, which no order of it changes. Assumes nothing.
+use Rattle.std.proofs.Common.{None}
 use Prim.Native.Nat.{ℕ, zero, suc, ◌+◌, ◌*◌, ◌^◌, ◌≤◌, ◌<◌}
 use mathlib.Core.Path.{◌≡◌, refl, sym, ap, ap₂, subst, ◌∙◌}
 use mathlib.Core.Bool.{Bool, true, false, cond, ◌&&◌}
@@ -14,12 +15,10 @@ use lib.Seq.{take-append_seam, drop-append_seam}
 use Rattle.algebra.proofs.Tests.{and_left, and_right, and_both}
 use Rattle.records.specs.declared.Pooled.{Pooled}
 use Rattle.records.specs.declared.Spreading.{Spreading}
-use Rattle.records.specs.declared.Spread.TheVariants.{Of, None}
-use Rattle.records.specs.declared.Verdict.{Verdict}
 use Rattle.meaning.specs.Analysis.{spread_hundredths, spread_hundredths_of}
 use Rattle.meaning.specs.Wide.{value, wide}
-use Rattle.meaning.specs.Publishing.{float, spread_of}
-use Rattle.meaning.specs.Refusals.{accepted, refused, test, ◌⨾◌, clean, in_balance, restraint, in_reach}
+use Rattle.meaning.specs.Publishing.{spreads, float, spread_of}
+use Rattle.meaning.specs.Refusals.{Verdict, accepted, refused, test, ◌⨾◌, clean, in_balance, restraint, in_reach}
 use Rattle.meaning.specs.Calls.{given, slices, readings_verdict, contents, job_verdict, spreading_of, no_spreading}
 use Rattle.meaning.specs.File.{head_of, blocks_of, readings_of, set_of, sum_of, read_verdict}
 use Rattle.meaning.specs.Pooled.{
@@ -254,7 +253,7 @@ sums_same figure other same (s ∷ js) g = ap₂ ◌+◌ (sym (same s g.0)) (sum
 -- ---- the report
 
 -- the enum with freedom, and without
-with_freedom : (k f : ℕ) → 0 < f → spread_of k f ≡ Of (float (pos k) 100) f
+with_freedom : (k f : ℕ) → 0 < f → spread_of k f ≡ spreads (float (pos k) 100) f
 with_freedom k zero l = absurd (omega arith)
 with_freedom k (suc f) l = refl
 

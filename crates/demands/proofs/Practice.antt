@@ -1,4 +1,5 @@
 -- Practice readings by the laws of practice, and the file of a practice job by those of writing. Assumes nothing.
+use Rattle.std.proofs.Common.{Ok, Err}
 use mathlib.Core.Path.{◌≡◌, refl, sym, ap, subst, ◌∙◌}
 use mathlib.Core.List.{List, ◌++◌}
 use Prim.Native.Nat.{ℕ, ◌≤◌, ◌<◌}
@@ -10,12 +11,10 @@ use lib.Seq.{take_at, drop_at}
 use Rattle.algebra.specs.Buffers.{over}
 use Rattle.algebra.proofs.Filling.{over_ext}
 use Rattle.algebra.proofs.Solver.{◌⊗◌, #, ◌≐◌, ring₁}
-use Rattle.records.specs.declared.Verdict.{Verdict}
-use Rattle.records.specs.declared.Verdict.TheVariants.{Accepted, Refused}
 use Rattle.meaning.specs.Design.{blocks, left, right}
 use Rattle.meaning.specs.Analysis.{reading, along, difference, deviation_of, qOf, spread_hundredths_of}
 use Rattle.meaning.specs.Fractions.{◌=ᶠ◌, whole}
-use Rattle.meaning.specs.Refusals.{accepted, ◌⨾◌}
+use Rattle.meaning.specs.Refusals.{Verdict, accepted, ◌⨾◌}
 use Rattle.meaning.specs.Writing.{file_of, file_length, ReadsAs}
 use Rattle.meaning.specs.Practice.{
   step,
@@ -66,8 +65,8 @@ generator start = record {
 
 -- two tests at the end of a chain, taken out
 two_out : (a c e f : Verdict) → a ⨾ (c ⨾ e) ⨾ f ≡ a ⨾ c ⨾ e ⨾ f
-two_out Accepted c e f = refl
-two_out (Refused k at) c e f = refl
+two_out (Ok done) c e f = refl
+two_out (Err why) c e f = refl
 
 module _ (x : Practice) where
   open x use {head as h, initial as d, truths as u, start as x₀, width as w, set as set}

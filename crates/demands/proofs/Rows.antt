@@ -10,12 +10,11 @@ use lib.ListN.{take, set}
 use lib.Signed.{le_z, lt_z}
 use Rattle.algebra.specs.Ranges.{eq_z, sum, sum_ℕ, first_from}
 use Rattle.records.specs.declared.Head.{Head}
-use Rattle.records.specs.declared.Verdict.{Verdict}
 use Rattle.meaning.specs.Design.{field_prime, sized, occ, digit_sum, plus, left, right, company, opposition, balanced, beta}
 use Rattle.meaning.specs.Analysis.{total, members, restrained, numerator_of, denominator_of, squared_readings, squared_totals, qOf, coefficient, factor}
 use Rattle.meaning.specs.Publishing.{rank, shortfall, published}
 use Rattle.meaning.specs.Fractions.{Fraction, ◌+ᶠ◌, squared, summed, values_along, deviation_under, squares_under}
-use Rattle.meaning.specs.Refusals.{number, place, offender, far_reading}
+use Rattle.meaning.specs.Refusals.{Verdict, number, place, offender, far_reading}
 use Rattle.algebra.specs.Buffers.{over as written_over}
 use Rattle.meaning.specs.Calls.{word, word_at, slices, contents, job_verdict, rooms}
 use Rattle.meaning.specs.File.{big, numbers_at, field_verdict, fields, read_verdict, solve_verdict}

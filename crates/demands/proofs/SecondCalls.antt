@@ -1,5 +1,6 @@
 -- What the calls on files of the second edition answer and leave, and that each of their refusals is listed: those of the four fields by the list of the first
 -- edition, in which 9 alone never arises here. Assumes nothing.
+use Rattle.std.proofs.Common.{Ok, Err}
 use mathlib.Core.Path.{◌≡◌, refl, sym, ap, subst, subst₂, ◌∙◌}
 use mathlib.Core.Bool.{Bool, true, false, cond, not, ◌||◌}
 use mathlib.Core.List.{List, [], ◌∷◌, ◌++◌}
@@ -13,10 +14,8 @@ use lib.IntN.{ℤ, pos}
 use lib.ListN.{length, get_or, take, drop, length-append, get_or-append, get_or-eq_default}
 use lib.Seq.{take_at, drop_at, take-length, get_or-drop, drop-drop, drop-append-add}
 use Rattle.records.specs.declared.Head.{Head}
-use Rattle.records.specs.declared.Verdict.{Verdict}
-use Rattle.records.specs.declared.Verdict.TheVariants.{Accepted, Refused}
 use Rattle.meaning.specs.Design.{objects, sized, list_length, blocks, balanced}
-use Rattle.meaning.specs.Refusals.{accepted, refused, number, place, test, ◌⨾◌, offender, far_reading}
+use Rattle.meaning.specs.Refusals.{Verdict, accepted, refused, number, place, test, ◌⨾◌, offender, far_reading}
 use Rattle.meaning.specs.Calls.{given, slices, contents, job_verdict, rooms, solved_under}
 use Rattle.meaning.specs.File.{
   big,
@@ -105,8 +104,8 @@ no9_test true k at n there e = refused_is_not 9 there (sym e)
 no9_test false k at n there e = n (ap number e)
 
 no9_then : (a b : Verdict) → No9 a → No9 b → No9 (a ⨾ b)
-no9_then Accepted b p q = q
-no9_then (Refused k at) b p q = p
+no9_then (Ok done) b p q = q
+no9_then (Err why) b p q = p
 
 no9_field : (s : List ℕ) (at tag len : ℕ) → No9 (field_verdict s at tag len)
 unfolding field_verdict
@@ -121,8 +120,8 @@ no9_field s at tag len =
 
 -- a refusal that is moved to its place keeps its number
 no9_placed : (s : List ℕ) (a : Verdict) → No9 a → No9 (placed s a)
-no9_placed s Accepted n there e = refused_is_not 9 there (sym e)
-no9_placed s (Refused k i) n there e = n i (ap (λ (c : ℕ). refused c i) (ap number e))
+no9_placed s (Ok done) n there e = refused_is_not 9 there (sym e)
+no9_placed s (Err why) n there e = n why.place (ap (λ (c : ℕ). refused c why.place) (ap number e))
 
 module _ (s : List ℕ) where
   abbrev file : List ℕ
@@ -160,22 +159,22 @@ module _ (s : List ℕ) where
   Lists2 verdict = (k at : ℕ) → verdict ≡ refused k at → Listed2 s k at
 
   ends2 : (a : Verdict) → Lists2 a → Ends2 s a
-  ends2 Accepted l = inl refl
-  ends2 (Refused k at) l = inr (k, at, refl, l k at refl)
+  ends2 (Ok done) l = inl refl
+  ends2 (Err why) l = inr (why.number, why.place, refl, l why.number why.place refl)
 
   lists_test : (t : Bool) (k at : ℕ) → Listed2 s k at → Lists2 (test t k at)
   lists_test true k at l n there e = refused_is_not n there (sym e)
   lists_test false k at l n there e = subst₂ (Listed2 s) (ap number e) (ap place e) l
 
   lists_then : (a b : Verdict) → Lists2 a → (a ≡ accepted → Lists2 b) → Lists2 (a ⨾ b)
-  lists_then Accepted b p q = q refl
-  lists_then (Refused k at) b p q = p
+  lists_then (Ok done) b p q = q refl
+  lists_then (Err why) b p q = p
 
   -- of the four fields, by the list of the first edition
   lists_moved : (a : Verdict) → ((k at : ℕ) → a ≡ refused k at → Listed file k at) → No9 a → Lists2 (moved_on a)
-  lists_moved Accepted l n k at e = refused_is_not k at (sym e)
-  lists_moved (Refused k at) l n number_is place_is e = subst₂ (Listed2 s) (ap number e) (ap place e)
-      (Listed2.in_the_four k at (l k at refl) (λ same. n at (ap (λ (c : ℕ). refused c at) same)))
+  lists_moved (Ok done) l n k at e = refused_is_not k at (sym e)
+  lists_moved (Err why) l n number_is place_is e = subst₂ (Listed2 s) (ap number e) (ap place e)
+      (Listed2.in_the_four why.number why.place (l why.number why.place refl) (λ same. n why.place (ap (λ (c : ℕ). refused c why.place) same)))
 
   four_lists : (k at : ℕ) → read_verdict file ≡ refused k at → Listed file k at
   four_lists k at e = by (reading-ends file)

@@ -1,5 +1,6 @@
 -- What checking a sheet answers: the search for the first difference by its laws, and, where the sheet agrees, the claimed column is the published one, so that
 -- demand 3 speaks of it. Assumes nothing.
+use Rattle.std.proofs.Common.{Some, Option, Ok, None, Err}
 use mathlib.Core.Bool.{Bool, true, false, cond, false≢true}
 use mathlib.Core.List.{List, [], ◌∷◌}
 use mathlib.Core.Path.{◌≡◌, refl, sym, ap, ap₂, subst, ◌∙◌}
@@ -12,21 +13,17 @@ use lib.IntN.{ℤ, pos, ◌*ℤ◌}
 use lib.ListN.{length}
 use Rattle.algebra.proofs.Sums.{sum_cong}
 use Rattle.algebra.proofs.Tests.{and_left, and_right, and_both}
-use Rattle.records.specs.declared.Checked.{Checked}
-use Rattle.records.specs.declared.Checked.TheVariants.{Agrees, Differs, Unchecked}
+use Rattle.records.specs.declared.Agreement.TheVariants.{Agrees, Differs}
 use Rattle.records.specs.declared.Head.{Head}
 use Rattle.records.specs.declared.Spread.{Spread}
-use Rattle.records.specs.declared.Spread.TheVariants.{Of, None}
-use Rattle.records.specs.declared.Verdict.{Verdict}
-use Rattle.records.specs.declared.Verdict.TheVariants.{Accepted, Refused}
 use Rattle.meaning.specs.Design.{objects, blocks, left, right}
 use Rattle.meaning.specs.Analysis.{reading, member, restrained, freedom, spread_hundredths_of}
 use Rattle.meaning.specs.Publishing.{float, spread_of}
 use Rattle.meaning.specs.Fractions.{Fraction, ◌+ᶠ◌, ◌-ᶠ◌, ◌≤ᶠ◌, ◌<ᶠ◌, whole, squared, summed, values_along, deviation_under, squares_under}
-use Rattle.meaning.specs.Refusals.{◌⨾◌, accepted, refused, test}
+use Rattle.meaning.specs.Refusals.{Verdict, ◌⨾◌, accepted, refused, test}
 use Rattle.meaning.specs.File.{read_verdict}
 use Rattle.meaning.specs.Edition2.{four_of, read_verdict2}
-use Rattle.meaning.specs.Sheet.{agrees, differs, unchecked, claim, same_spread, differs_at, against, checked_under, checked_verdict}
+use Rattle.meaning.specs.Sheet.{Checked, agrees, differs, unchecked, claim, same_spread, differs_at, against, checked_under, checked_verdict}
 use Rattle.laws.proofs.Chains.{Sound, job, opened, held, goes_on, accepts, refused_stays, test_yes, test_no}
 use Rattle.laws.proofs.Occurrences.{Each, each-head, each_tail}
 use Rattle.laws.proofs.Clean.{left-objects, right-objects}
@@ -46,22 +43,22 @@ agrees_is_not : {A : Type 0} (i : ℕ) → differs i ≡ agrees → A
 agrees_is_not i e = absurd (false≢true (ap agreeing e))
   where
     agreeing : Checked → Bool
-    agreeing Agrees = true
-    agreeing (Differs at) = false
-    agreeing (Unchecked k at) = false
+    agreeing (Ok Agrees) = true
+    agreeing (Ok (Differs at)) = false
+    agreeing (Err why) = false
 
 -- the place of a difference
 same_place : (i o : ℕ) → differs i ≡ differs o → i ≡ o
 same_place i o e = ap at e
   where
     at : Checked → ℕ
-    at Agrees = 0
-    at (Differs i) = i
-    at (Unchecked k i) = i
+    at (Ok Agrees) = 0
+    at (Ok (Differs i)) = i
+    at (Err why) = why.place
 
 -- ---- claims against hundredths and a spread
 
-module _ (n : ℕ) (f : ℕ → ℤ) (spread : Spread) (claims : List ℤ) (claimed : Spread) where
+module _ (n : ℕ) (f : ℕ → ℤ) (spread : Option Spread) (claims : List ℤ) (claimed : Option Spread) where
   abbrev found : ℕ
   found = differs_at n f claims
 
@@ -139,8 +136,8 @@ module _ (n : ℕ) (f : ℕ → ℤ) (spread : Spread) (claims : List ℤ) (clai
 
 -- an answer that is no refusal stands under acceptance
 no_refusal : (verdict : Verdict) (answer : Checked) → checked_verdict (checked_under verdict answer) ≡ accepted → verdict ≡ accepted
-no_refusal Accepted answer e = refl
-no_refusal (Refused k at) answer e = e
+no_refusal (Ok done) answer e = refl
+no_refusal (Err why) answer e = e
 
 module _ (verdict : Verdict) (n : ℕ) (claims : List ℤ) (answer : Checked) where
   abbrev fit : Verdict
@@ -174,33 +171,33 @@ module _ (j : Job) where
   abbrev k : ℕ
   k = spread_hundredths_of j.head j.initial j.readings
 
-  abbrev own : Spread
+  abbrev own : Option Spread
   own = spread_of k (freedom j.head)
 
-  right-spread : (claimed : Spread) → same_spread claimed own ≡ true → RightSpread j claimed
+  right-spread : (claimed : Option Spread) → same_spread claimed own ≡ true → RightSpread j claimed
   right-spread claimed e = go claimed (freedom j.head) refl e
     where
-      go : (claimed : Spread) (f : ℕ) → freedom j.head ≡ f → same_spread claimed (spread_of k f) ≡ true → RightSpread j claimed
-      go (Of x g) zero p e = absurd (false≢true e)
-      go (Of x g) (suc f) p e =
-          let same = eqb-true g (suc f) (and_right (eq x (float (pos k) 100)) (eqb g (suc f)) e) in
-          (omega (arith, p), same ∙ sym p, and_left (eq x (float (pos k) 100)) (eqb g (suc f)) e)
+      go : (claimed : Option Spread) (f : ℕ) → freedom j.head ≡ f → same_spread claimed (spread_of k f) ≡ true → RightSpread j claimed
+      go (Some spread) zero p e = absurd (false≢true e)
+      go (Some spread) (suc f) p e =
+          let same = eqb-true spread.freedom (suc f) (and_right (eq spread.value (float (pos k) 100)) (eqb spread.freedom (suc f)) e) in
+          (omega (arith, p), same ∙ sym p, and_left (eq spread.value (float (pos k) 100)) (eqb spread.freedom (suc f)) e)
       go None zero p e = p
       go None (suc f) p e = absurd (false≢true e)
 
-  spread-right : (claimed : Spread) → RightSpread j claimed → same_spread claimed own ≡ true
+  spread-right : (claimed : Option Spread) → RightSpread j claimed → same_spread claimed own ≡ true
   spread-right claimed r = go claimed (freedom j.head) refl r
     where
-      go : (claimed : Spread) (f : ℕ) → freedom j.head ≡ f → RightSpread j claimed → same_spread claimed (spread_of k f) ≡ true
-      go (Of x g) zero p (some, same, number) = absurd (omega (arith, p, some))
-      go (Of x g) (suc f) p (some, same, number) = and_both number (eq-eqb g (suc f) (same ∙ p))
+      go : (claimed : Option Spread) (f : ℕ) → freedom j.head ≡ f → RightSpread j claimed → same_spread claimed (spread_of k f) ≡ true
+      go (Some spread) zero p (some, same, number) = absurd (omega (arith, p, some))
+      go (Some spread) (suc f) p (some, same, number) = and_both number (eq-eqb spread.freedom (suc f) (same ∙ p))
       go None zero p r = refl
       go None (suc f) p r = absurd (omega (arith, p, r))
 
-  wrong_spread : (claimed : Spread) → same_spread claimed own ≡ false → RightSpread j claimed → ⊥
+  wrong_spread : (claimed : Option Spread) → same_spread claimed own ≡ false → RightSpread j claimed → ⊥
   wrong_spread claimed e r = false≢true (sym e ∙ spread-right claimed r)
 
-  spread_wrong : (claimed : Spread) → (RightSpread j claimed → ⊥) → same_spread claimed own ≡ false
+  spread_wrong : (claimed : Option Spread) → (RightSpread j claimed → ⊥) → same_spread claimed own ≡ false
   spread_wrong claimed n = go (same_spread claimed own) refl
     where
       go : (t : Bool) → same_spread claimed own ≡ t → same_spread claimed own ≡ false
@@ -266,7 +263,7 @@ module _ (j : Job) (claims : List ℤ) (e : verdict_of j ≡ accepted) (right : 
 
 -- ---- the sheet
 
-module _ (verdict : Verdict) (j : Job) (claims : List ℤ) (claimed : Spread) (direct : verdict ≡ accepted → verdict_of j ≡ accepted) where
+module _ (verdict : Verdict) (j : Job) (claims : List ℤ) (claimed : Option Spread) (direct : verdict ≡ accepted → verdict_of j ≡ accepted) where
   abbrev f : ℕ → ℤ
   f i = (published j i).top
 
@@ -309,12 +306,12 @@ module _ (verdict : Verdict) (j : Job) (claims : List ℤ) (claimed : Spread) (d
     carries = λ e. let a = agreeing e in carried j claims (direct a.0.0) a.1;
   }
 
-pub sheet_of_parts : (j : Job) (claims : List ℤ) (claimed : Spread) → SheetOfParts j claims claimed
+pub sheet_of_parts : (j : Job) (claims : List ℤ) (claimed : Option Spread) → SheetOfParts j claims claimed
 sheet_of_parts j claims claimed = sheet_checked (verdict_of j) j claims claimed (λ e. e)
 
-pub sheet_of_file : (s : List ℕ) (claims : List ℤ) (claimed : Spread) → SheetOfFile s claims claimed
+pub sheet_of_file : (s : List ℕ) (claims : List ℤ) (claimed : Option Spread) → SheetOfFile s claims claimed
 sheet_of_file s claims claimed = sheet_checked (read_verdict s) (job_in s) claims claimed (λ e. (file-job s e).1)
 
-pub sheet_of_second : (s : List ℕ) (claims : List ℤ) (claimed : Spread) → SheetOfSecond s claims claimed
+pub sheet_of_second : (s : List ℕ) (claims : List ℤ) (claimed : Option Spread) → SheetOfSecond s claims claimed
 sheet_of_second s claims claimed =
     sheet_checked (read_verdict2 s) (job_in (four_of s)) claims claimed (λ e. (file-job (four_of s) (file_job2 s e).1).1)

@@ -11,11 +11,10 @@ use lib.Dec.{lit<}
 use lib.IntN.{ℤ, nat_abs}
 use lib.ListN.{length}
 use Rattle.records.specs.declared.Head.{Head}
-use Rattle.records.specs.declared.Verdict.{Verdict}
 use Rattle.meaning.specs.Design.{blocks}
 use Rattle.meaning.specs.Analysis.{squared_readings, squared_totals, qOf}
 use Rattle.meaning.specs.Wide.{value, wide, wide_zero}
-use Rattle.meaning.specs.Refusals.{accepted}
+use Rattle.meaning.specs.Refusals.{Verdict, accepted}
 use Rattle.meaning.specs.Text.{digits, wide_text}
 use Rattle.meaning.specs.Calls.{
   given,

@@ -7,10 +7,9 @@ use borrow.Author.Tests.{le-leb}
 use lib.Dec.{leb}
 use lib.ListN.{length, take, drop}
 use lib.Seq.{take_at, drop_at}
-use Rattle.records.specs.declared.Verdict.{Verdict}
 use Rattle.records.specs.declared.JobWritten.{JobWritten}
 use Rattle.meaning.specs.Design.{list_length}
-use Rattle.meaning.specs.Refusals.{accepted, ◌⨾◌}
+use Rattle.meaning.specs.Refusals.{Verdict, accepted, ◌⨾◌}
 use Rattle.meaning.specs.Calls.{given}
 use Rattle.meaning.specs.File.{fields, placed, read_verdict, read_answer}
 use Rattle.meaning.specs.Writing.{Bytes, file_of, file_length, ReadsAs, write_verdict, written_answer, written_after}

@@ -1,8 +1,7 @@
 -- THE STANDARD UNCERTAINTY AND THE CERTIFICATE. Certificates state the standard uncertainty of each weight: the least whole number u of hundredths that is not
 -- below 100 times the spread's exact standard deviation times the root of the variance factor, so that it is never understated; none where f is 0. The
 -- certificate is one text for every file, of fixed width, and the figure below its standards is the accepted sum. Assumes nothing.
-use Rattle.std.specs.Prelude.{List, ◌≡◌, ℕ, ◌-◌, ◌*◌, ◌≤◌, ◌<◌, pos, ◌*ℤ◌, length}
-use Rattle.records.specs.declared.Uncertainty.TheVariants.{Stated, Unstated}
+use Rattle.std.specs.Prelude.{None, List, ◌≡◌, ℕ, ◌-◌, ◌*◌, ◌≤◌, ◌<◌, pos, ◌*ℤ◌, length}
 use Rattle.meaning.specs.Analysis.{member, restrained, vbeta, denominator_of, factor, qOf, freedom}
 use Rattle.meaning.specs.Publishing.{published, float, Near}
 use Rattle.meaning.specs.Refusals.{accepted, refused}
@@ -11,6 +10,7 @@ use Rattle.meaning.specs.File.{read_verdict}
 use Rattle.meaning.specs.Text.{text_of}
 use Rattle.meaning.specs.Edition2.{four_of, names_at, text_of2, read_verdict2}
 use Rattle.meaning.specs.Certificate.{
+  states,
   uncertainty_hundredths_of,
   uncertainty_of,
   uncertainty_answer,
@@ -44,9 +44,9 @@ module _ (j : Job) where
     -- and it is the least: u is 0, or (u-1)·(u-1)·(t·v·beta)·(v·beta)·f is below
     pub least : (i : ℕ) → 0 < freedom h → 0 < u i → reach (u i - 1) < asked i
     -- There is none where f is 0,
-    pub none : (i : ℕ) → freedom h ≡ 0 → uncertainty_of h d y w i ≡ Unstated
+    pub none : (i : ℕ) → freedom h ≡ 0 → uncertainty_of h d y w i ≡ None
     -- and u hundredths, with their f64, where it is not
-    pub stated : (i : ℕ) → 0 < freedom h → uncertainty_of h d y w i ≡ Stated (u i) (float (pos (u i)) 100)
+    pub stated : (i : ℕ) → 0 < freedom h → uncertainty_of h d y w i ≡ states (u i) (float (pos (u i)) 100)
     pub near : (i : ℕ) → 0 < freedom h → Near 53 (float (pos (u i)) 100) (pos (u i)) 100
     -- The call hands it out for each object
     pub handed_out : (i : ℕ) → i < v j → (uncertainty_answer h d y w M i).uncertainty ≡ uncertainty_of h d y w i
@@ -54,7 +54,7 @@ module _ (j : Job) where
   -- The call refuses as the call for the object's value does, and a refusal states nothing; of any job
   pub record UncertaintyRefused : Type 0 where
     pub as_the_value : (i : ℕ) → (uncertainty_answer h d y w M i).verdict ≡ (value_answer h d y w M i).verdict
-    pub states_nothing : (i k at : ℕ) → (uncertainty_answer h d y w M i).verdict ≡ refused k at → (uncertainty_answer h d y w M i).uncertainty ≡ Unstated
+    pub states_nothing : (i k at : ℕ) → (uncertainty_answer h d y w M i).verdict ≡ refused k at → (uncertainty_answer h d y w M i).uncertainty ≡ None
 
 -- ---- for an accepted job: in a file, and in a direct call
 

@@ -11,8 +11,7 @@
 -- SecondCalls. Assumes nothing.
 use Rattle.std.specs.Prelude.{not, ◌||◌, List, ◌∷◌, ◌≡◌, ℕ, ◌+◌, ◌*◌, ◌≤◌, ◌<◌, eqb, leb, length, get_or, take, drop}
 use Rattle.meaning.specs.Design.{objects, blocks, sized, list_length}
-use Rattle.records.specs.declared.Verdict.{Verdict}
-use Rattle.meaning.specs.Refusals.{accepted, refused, test, ◌⨾◌}
+use Rattle.meaning.specs.Refusals.{Verdict, accepted, refused, test, ◌⨾◌}
 use Rattle.meaning.specs.File.{big, head_of, field_verdict, fields, read_verdict}
 use Rattle.meaning.specs.Text.{text_of}
 use Rattle.meaning.specs.Writing.{Bytes, ReadsAs}

@@ -1,11 +1,11 @@
 -- A job as the demands speak of it: its parts, and what the definitions of the bench make of them, by short names. Assumes nothing.
 use Rattle.std.specs.Prelude.{List, ℕ, ℤ}
 use Rattle.records.specs.declared.Head.{Head}
-use Rattle.records.specs.declared.Verdict.{Verdict}
 use Rattle.meaning.specs.Design.{objects, blocks, Balanced}
 use Rattle.meaning.specs.Fractions.{Fraction, squares_under, KeepsRestraint, exact_values, published_values}
 use Rattle.meaning.specs.Calls.{job_verdict}
 use Rattle.meaning.specs.File.{head_of, blocks_of, set_of, sum_of, readings_of}
+use Rattle.meaning.specs.Refusals.{Verdict}
 
 -- the parts of a job, as direct calls take them: the head, the bytes of the initial blocks, the readings, the restraint set and its accepted sum M
 pub record Job : Type 0 where

@@ -1,7 +1,6 @@
 -- What a call leaves of a lent room, and what it hands back, where it refuses and where it accepts. Assumes nothing.
 use Rattle.std.specs.Prelude.{List, ◌≡◌, ℕ, ◌+◌, ◌≤◌, ◌<◌, ℤ, length, get_or}
-use Rattle.records.specs.declared.Verdict.{Verdict}
-use Rattle.meaning.specs.Refusals.{accepted, refused}
+use Rattle.meaning.specs.Refusals.{Verdict, accepted, refused}
 use Rattle.meaning.specs.Calls.{words_under, values_under, deviations_under}
 use Rattle.meaning.specs.File.{solve_verdict}
 use Rattle.demands.specs.Job.{job_in}

@@ -5,8 +5,6 @@ use Rattle.std.specs.Prelude.{true, ◌⊎◌, ◌↔◌, ◌≡◌, ℕ, ◌+�
 use Rattle.algebra.specs.Ranges.{sum, sum_ℕ}
 use Rattle.algebra.specs.Tables.{entry}
 use Rattle.records.specs.declared.Parameters.{Parameters}
-use Rattle.records.specs.declared.Spread.TheVariants.{Of}
-use Rattle.records.specs.declared.Verdict.{Verdict}
 use Rattle.meaning.specs.Design.{occ, left, right, company, opposition, Balanced, beta, parameters_of}
 use Rattle.meaning.specs.Analysis.{
   reading,
@@ -27,9 +25,9 @@ use Rattle.meaning.specs.Analysis.{
   freedom,
   spread_hundredths_of,
 }
-use Rattle.meaning.specs.Publishing.{published, float, Near, value_of, no_spread, spread_of}
+use Rattle.meaning.specs.Publishing.{spreads, published, float, Near, value_of, no_spread, spread_of}
 use Rattle.meaning.specs.Fractions.{Fraction, squared, ◌≤ᶠ◌, ◌<ᶠ◌, deviation_under}
-use Rattle.meaning.specs.Refusals.{accepted}
+use Rattle.meaning.specs.Refusals.{Verdict, accepted}
 use Rattle.meaning.specs.Calls.{word_at, company_table, opposition_table}
 use Rattle.demands.specs.Job.{Job, v, b, exact, squares}
 use Rattle.demands.specs.Refusals.{blocks_clean, restraint_fits, two_standards, readings_fit}
@@ -142,7 +140,7 @@ module _ (j : Job) where
     pub cut_below : 0 < freedom h → squared (hundredths (pos k)) ≤ᶠ standard_deviation_squared
     pub cut_above : 0 < freedom h → standard_deviation_squared <ᶠ squared (hundredths (pos (k + 1)))
     -- it is handed out as the f64 k / 100 with f, with all that it is made from
-    pub handed_out : 0 < freedom h → spread_of k (freedom h) ≡ Of (float (pos k) 100) (freedom h)
+    pub handed_out : 0 < freedom h → spread_of k (freedom h) ≡ spreads (float (pos k) 100) (freedom h)
     pub hundredths_convert : k < 2 ^ 53
     pub near : Near 53 (float (pos k) 100) (pos k) 100
     -- there is none exactly if f is 0

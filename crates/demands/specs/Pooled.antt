@@ -4,12 +4,11 @@
 -- the bytes lent, then the first bad job's own number with the job's index, place from its own start, then 17 with the index of the first job whose v or beta
 -- differs from job 0's.
 -- `pooled_answer` is what the call promises to answer (meaning, Pooled); its index is a third number, beside the number and the place. Assumes nothing.
-use Rattle.std.specs.Prelude.{List, [], ◌∷◌, ◌++◌, map, ◌≡◌, ℕ, ◌+◌, ◌*◌, ◌^◌, ◌<◌, ◌≤◌, pos, length}
+use Rattle.std.specs.Prelude.{None, List, [], ◌∷◌, ◌++◌, map, ◌≡◌, ℕ, ◌+◌, ◌*◌, ◌^◌, ◌<◌, ◌≤◌, pos, length}
 use Rattle.records.specs.declared.Pooled.{Pooled}
 use Rattle.records.specs.declared.Spreading.{Spreading}
-use Rattle.records.specs.declared.Spread.TheVariants.{Of, None}
 use Rattle.meaning.specs.Wide.{value}
-use Rattle.meaning.specs.Publishing.{float}
+use Rattle.meaning.specs.Publishing.{spreads, float}
 use Rattle.meaning.specs.Refusals.{accepted, refused}
 use Rattle.meaning.specs.Calls.{spread_answer, no_spreading}
 use Rattle.meaning.specs.File.{head_of, blocks_of, readings_of, read_verdict}
@@ -69,7 +68,7 @@ pub record Reported (first : List ℕ) (rest : List (List ℕ)) (r : Spreading) 
       (r.hundredths * r.hundredths * r.vbeta * r.freedom ≤ 10000 * value r.q)
       × (10000 * value r.q < (r.hundredths + 1) * (r.hundredths + 1) * r.vbeta * r.freedom)
   -- its spread with the total f; if the total f is 0 there is none
-  pub some : 0 < r.freedom → r.spread ≡ Of (float (pos r.hundredths) 100) r.freedom
+  pub some : 0 < r.freedom → r.spread ≡ spreads (float (pos r.hundredths) 100) r.freedom
   pub none : r.freedom ≡ 0 → (r.spread ≡ None) × (r.hundredths ≡ 0)
 
 pub record PooledSpread (first : List ℕ) (rest : List (List ℕ)) : Type 0 where

@@ -33,12 +33,11 @@ use Rattle.std.specs.Prelude.{
 }
 use Rattle.algebra.specs.Ranges.{all}
 use Rattle.records.specs.declared.Head.{Head}
-use Rattle.records.specs.declared.Verdict.{Verdict}
 use Rattle.meaning.specs.Design.{objects, left, right}
 use Rattle.meaning.specs.Analysis.{reading, restrained, along, deviation_of, qOf, spread_hundredths_of, freedom}
 use Rattle.meaning.specs.Publishing.{no_spread, spread_of}
 use Rattle.meaning.specs.Fractions.{◌=ᶠ◌, whole}
-use Rattle.meaning.specs.Refusals.{accepted, test, ◌⨾◌, reading_limit}
+use Rattle.meaning.specs.Refusals.{Verdict, accepted, test, ◌⨾◌, reading_limit}
 use Rattle.meaning.specs.Writing.{ReadsAs}
 use Rattle.meaning.specs.Practice.{
   state,

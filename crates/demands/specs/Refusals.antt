@@ -2,10 +2,9 @@
 -- `test t k at` refuses by the number k at the place `at` unless t holds; `a ⨾ b` is the first of the two that refuses. `offender` is the first byte of
 -- the initial blocks that offends, and `far_reading` the first reading out of range, or how many there are where there is none.
 use Rattle.std.specs.Prelude.{Bool, ◌&&◌, List, ◌⊎◌, ◌≡◌, ℕ, ◌+◌, ◌*◌, ◌^◌, ◌<◌, eqb, ltb, leb, nat_abs, length, get_or}
-use Rattle.records.specs.declared.Verdict.{Verdict}
 use Rattle.meaning.specs.Design.{blocks, sized, list_length, balanced}
 use Rattle.meaning.specs.Analysis.{members}
-use Rattle.meaning.specs.Refusals.{accepted, refused, test, ◌⨾◌, offender, far_reading, sum_limit}
+use Rattle.meaning.specs.Refusals.{Verdict, accepted, refused, test, ◌⨾◌, offender, far_reading, sum_limit}
 use Rattle.meaning.specs.File.{big, head_of, second_at, third_at, fourth_at, end_at, blocks_at, readings_at}
 use Rattle.demands.specs.Job.{Job, job_in, v, b}
 

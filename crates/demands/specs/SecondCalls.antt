@@ -3,10 +3,9 @@
 -- that the caller lent; and what is handed out is that of the job in the four fields. The order of reading, and the files moved, stand in Edition2.
 -- Assumes nothing.
 use Rattle.std.specs.Prelude.{cond, ◌||◌, List, ◌⊎◌, ◌≡◌, ℕ, ◌+◌, ◌*◌, ◌≤◌, ◌<◌, eqb, ℤ, pos, length, take, drop}
-use Rattle.records.specs.declared.Verdict.{Verdict}
 use Rattle.meaning.specs.Design.{parameters_of}
 use Rattle.meaning.specs.Analysis.{numerator_of, denominator_of, deviation_of}
-use Rattle.meaning.specs.Refusals.{accepted, refused, test, ◌⨾◌}
+use Rattle.meaning.specs.Refusals.{Verdict, accepted, refused, test, ◌⨾◌}
 use Rattle.meaning.specs.Calls.{word_at, spreading_of, no_parameters, no_spreading}
 use Rattle.meaning.specs.File.{big, no_head, readings_at}
 use Rattle.meaning.specs.Writing.{ReadsAs}

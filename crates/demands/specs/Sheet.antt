@@ -2,19 +2,16 @@
 -- what demand 2 and P3 give, otherwise the first object that differs, or v for the spread. A claimed `none` is right only when f = 0. Acceptance carries
 -- demand 3 over to their figures, however they were made. Refusals: the job's own first, then 15 for a claim list of the wrong length.
 -- That a sheet differs is an answer and no refusal. What the calls answer is equated to these definitions in docs/PROMISES.md. Assumes nothing.
-use Rattle.std.specs.Prelude.{true, List, ◌↔◌, ◌≡◌, ℕ, ◌<◌, ◌≤◌, ℤ, pos, ◌*ℤ◌, length}
+use Rattle.std.specs.Prelude.{Some, Option, None, true, List, ◌↔◌, ◌≡◌, ℕ, ◌<◌, ◌≤◌, ℤ, pos, ◌*ℤ◌, length}
 use Rattle.std.specs.Float.Ieee.{eq}
-use Rattle.records.specs.declared.Checked.{Checked}
 use Rattle.records.specs.declared.Spread.{Spread}
-use Rattle.records.specs.declared.Spread.TheVariants.{Of, None}
-use Rattle.records.specs.declared.Verdict.{Verdict}
 use Rattle.meaning.specs.Analysis.{restrained, freedom, spread_hundredths_of}
 use Rattle.meaning.specs.Publishing.{float}
 use Rattle.meaning.specs.Fractions.{Fraction, ◌+ᶠ◌, ◌≤ᶠ◌, ◌<ᶠ◌}
-use Rattle.meaning.specs.Refusals.{accepted, refused}
+use Rattle.meaning.specs.Refusals.{Verdict, accepted, refused}
 use Rattle.meaning.specs.File.{read_verdict}
 use Rattle.meaning.specs.Edition2.{four_of, read_verdict2}
-use Rattle.meaning.specs.Sheet.{agrees, differs, unchecked, claim, check_answer, file_answer, second_answer}
+use Rattle.meaning.specs.Sheet.{Checked, agrees, differs, unchecked, claim, check_answer, file_answer, second_answer}
 use Rattle.demands.specs.Job.{Job, job_in, v, verdict_of, exact, published, squares, Keeps}
 use Rattle.demands.specs.Fractions.{distance, hundredths}
 use Rattle.demands.specs.Demand3.{hundredth, half_hundredth, excess, Member}
@@ -23,8 +20,8 @@ use Rattle.demands.specs.Demand3.{hundredth, half_hundredth, excess, Member}
 
 module _ (j : Job) where
   -- a claimed spread is right: the f64 of k/100 as a number (no NaN is any, -0.0 is 0.0) with the job's degrees of freedom; none only when f = 0
-  abbrev pub RightSpread : Spread → Type 0
-  RightSpread (Of x f) = (0 < freedom j.head) × (f ≡ freedom j.head) × (eq x (float (pos (spread_hundredths_of j.head j.initial j.readings)) 100) ≡ true)
+  abbrev pub RightSpread : Option Spread → Type 0
+  RightSpread (Some spread) = (0 < freedom j.head) × (spread.freedom ≡ freedom j.head) × (eq spread.value (float (pos (spread_hundredths_of j.head j.initial j.readings)) 100) ≡ true)
   RightSpread None = freedom j.head ≡ 0
 
   -- the claim of object i is right: the published hundredths
@@ -52,7 +49,7 @@ module _ (j : Job) (claims : List ℤ) where
 
 -- ---- what checking a sheet answers, under the verdict on its job
 
-module _ (verdict : Verdict) (j : Job) (claims : List ℤ) (claimed : Spread) (answer : Checked) where
+module _ (verdict : Verdict) (j : Job) (claims : List ℤ) (claimed : Option Spread) (answer : Checked) where
   -- the job is accepted, and there is one claim for each object
   abbrev pub Taken : Type 0
   Taken = (verdict ≡ accepted) × (length claims ≡ v j)
@@ -75,12 +72,12 @@ module _ (verdict : Verdict) (j : Job) (claims : List ℤ) (claimed : Spread) (a
 
 -- ---- over a job's parts, over a file, and over a file of the second edition
 
-abbrev pub SheetOfParts : Job → List ℤ → Spread → Type 0
+abbrev pub SheetOfParts : Job → List ℤ → Option Spread → Type 0
 SheetOfParts j claims claimed =
     SheetChecked (verdict_of j) j claims claimed (check_answer j.head j.initial j.readings j.set j.sum claims claimed)
 
-abbrev pub SheetOfFile : List ℕ → List ℤ → Spread → Type 0
+abbrev pub SheetOfFile : List ℕ → List ℤ → Option Spread → Type 0
 SheetOfFile s claims claimed = SheetChecked (read_verdict s) (job_in s) claims claimed (file_answer s claims claimed)
 
-abbrev pub SheetOfSecond : List ℕ → List ℤ → Spread → Type 0
+abbrev pub SheetOfSecond : List ℕ → List ℤ → Option Spread → Type 0
 SheetOfSecond s claims claimed = SheetChecked (read_verdict2 s) (job_in (four_of s)) claims claimed (second_answer s claims claimed)

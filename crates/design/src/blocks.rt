@@ -6,35 +6,45 @@ ghost use Rattle.meaning.specs.Calls.{design_verdict};
 ghost use Rattle.laws.specs.Fits.{Fits};
 
 use crate::sizes::{sized, with_fixed};
-use records::{Head, Verdict};
+use records::{Head, Refusal, Verdict};
 
 // Why a block list is refused, or that it is accepted: the sizes, then its length, then the first byte that offends.
+#[tactic(auto, unfolding(meaning::specs::Calls::design_verdict))]
 pub fn pairs_refusal(head: Head, blocks: &[u8]) -> Verdict
     ensures { result ≡ design_verdict head blocks.now }
 {
     if !sized(head) {
-        return Verdict::Refused(4, 0);
+        return Err(Refusal {
+            number: 4,
+            place: 0,
+        });
     }
     let p = head.p;
     let m = head.m;
     if blocks.len() != 2 * p * m {
-        return Verdict::Refused(3, 0);
+        return Err(Refusal {
+            number: 3,
+            place: 0,
+        });
     }
     let at = offender(head, blocks);
     if at != blocks.len() {
-        return Verdict::Refused(5, at);
+        return Err(Refusal {
+            number: 5,
+            place: at,
+        });
     }
-    Verdict::Accepted
+    Ok(())
 }
 
 // Whether a byte names an object of the design.
 fn in_range(head: Head, byte: u8) -> bool
     ensures { result ≡ in_range head byte }
 {
-    if byte < 255 {
-        (byte as usize) < head.n
-    } else {
+    if byte == 255 {
         with_fixed(head)
+    } else {
+        usize::from(byte) < head.n
     }
 }
 
@@ -42,12 +52,7 @@ fn in_range(head: Head, byte: u8) -> bool
 pub fn stands_among(bytes: &[u8], byte: u8) -> bool
     ensures { result ≡ ltb 0 (occ byte bytes.now) }
 {
-    for k in 0..bytes.len() {
-        if bytes[k] == byte {
-            return true;
-        }
-    }
-    false
+    bytes.contains(&byte)
 }
 
 // Whether byte i is out of range, or stands earlier in its block.
@@ -55,14 +60,9 @@ fn offends(head: Head, blocks: &[u8], i: usize) -> bool
     requires { (Fits head) × (i < length blocks.now) }
     ensures { result ≡ offends head blocks.now i }
 {
-    let p = head.p;
     let byte = blocks[i];
-    if in_range(head, byte) {
-        let start = i - i % (2 * p);
-        stands_among(&blocks[start..i], byte)
-    } else {
-        true
-    }
+    let start = i - i % (2 * head.p);
+    !in_range(head, byte) || stands_among(&blocks[start..i], byte)
 }
 
 // The first byte that offends, or the length where none does.
@@ -70,12 +70,10 @@ fn offender(head: Head, blocks: &[u8]) -> usize
     requires { Fits head }
     ensures { result ≡ offender head blocks.now }
 {
-    let mut i = 0;
-    while i < blocks.len() {
+    for i in 0..blocks.len() {
         if offends(head, blocks, i) {
             return i;
         }
-        i += 1;
     }
-    i
+    blocks.len()
 }

@@ -9,52 +9,21 @@ use records::Head;
 pub fn sized(head: Head) -> bool
     ensures { result ≡ sized head }
 {
-    let n = head.n;
-    let flag = head.flag;
-    let p = head.p;
-    let m = head.m;
-    if n < 3 {
-        return false;
-    }
-    if 50 < n {
-        return false;
-    }
-    if 3 < flag {
-        return false;
-    }
-    if !has_addition(head) {
-        return false;
-    }
-    let v = counted(head);
-    if 50 < v {
-        return false;
-    }
-    if p < 1 {
-        return false;
-    }
-    if v / 2 < p {
-        return false;
-    }
-    if m < 1 {
-        return false;
-    }
-    if 64 < m {
-        return false;
-    }
-    if 1300 < m * n {
-        return false;
-    }
-    true
+    let Head { n, flag, p, m } = head;
+    (3..=50).contains(&n)
+        && (0..=3).contains(&flag)
+        && has_addition(head)
+        && counted(head) <= 50
+        && (1..=counted(head) / 2).contains(&p)
+        && (1..=64).contains(&m)
+        && m * n <= 1300
 }
 
 // v, the number of objects; 0 where a size is broken.
 pub fn objects(head: Head) -> usize
     ensures { result ≡ within head (objects head) }
 {
-    if !sized(head) {
-        return 0;
-    }
-    counted(head)
+    if sized(head) { counted(head) } else { 0 }
 }
 
 // The elements, and the fixed object where it takes part.
@@ -62,8 +31,7 @@ fn counted(head: Head) -> usize
     requires { head.n ≤ 50 }
     ensures { result ≡ objects head }
 {
-    let n = head.n;
-    if with_fixed(head) { n + 1 } else { n }
+    head.n + usize::from(with_fixed(head))
 }
 
 // Whether the fixed object takes part.
@@ -84,37 +52,19 @@ pub(crate) fn by_field(head: Head) -> bool
 fn has_addition(head: Head) -> bool
     ensures { result ≡ has_addition head }
 {
-    if by_field(head) {
-        0 < field_prime(head.n)
-    } else {
-        true
-    }
+    !by_field(head) || 0 < field_prime(head.n)
 }
 
 // The prime of the field of n elements, 0 where the request has no such field.
+#[tactic(auto, unfolding(meaning::specs::Design::field_prime))]
 fn field_prime(n: usize) -> usize
     ensures { result ≡ field_prime n }
 {
-    if n == 8 {
-        return 2;
+    match n {
+        8 | 16 | 32 => 2,
+        9 | 27 => 3,
+        25 => 5,
+        49 => 7,
+        _ => 0,
     }
-    if n == 16 {
-        return 2;
-    }
-    if n == 32 {
-        return 2;
-    }
-    if n == 9 {
-        return 3;
-    }
-    if n == 27 {
-        return 3;
-    }
-    if n == 25 {
-        return 5;
-    }
-    if n == 49 {
-        return 7;
-    }
-    0
 }

@@ -14,12 +14,12 @@ use denote.Ref.{Bor}
 use denote.Triple.Clauses.{AtExit}
 use borrow.Fn.World.{ArgsD, ResD}
 use borrow.Author.Rules.{rules}
-use Rattle.records.specs.declared.Field.{Field}
 use Rattle.fields.specs.declared.reader.Reader.{Reader}
 use Rattle.fields.proofs.reader.Promises.{Made, Found, Moved}
 use Rattle.fields.specs.contracts.reader.reader_at as made
 use Rattle.fields.specs.contracts.reader.field as field
 use Rattle.fields.specs.contracts.reader.past as past
+use Rattle.meaning.specs.File.{Field}
 
 -- that is what their contracts are
 module _ {M : Type 1} {𝓤 : Ura M} (𝓛 : Logic 𝓤) (mem : Memory → SProp 𝓤) (run : Routine → Fun 𝓤) (κs : Lfts 1) where

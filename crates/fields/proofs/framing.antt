@@ -1,3 +1,2 @@
--- What stands at a place by the tests, and what a field that was found tells.
-pub mod Answers
+-- What a field that was found tells.
 pub mod Says

@@ -7,23 +7,17 @@ use crate::contents::head_of;
 use crate::places::body_length;
 use crate::reader::{field, past, reader_at};
 use design::sized;
-use records::{Field, Verdict};
-use verdicts::is_refused;
+use records::{Field, Refusal, Verdict};
 
 // The four fields and the end of the file; the sizes right after the first.
 pub fn fields_refusal(bytes: &[u8]) -> Verdict
     ensures { result ≡ fields bytes.now }
 {
     let mut reader = reader_at(bytes, 0);
-    let mut tag = 1;
-    while tag <= 4 {
+    for tag in 1..=4 {
         let length = body_length(bytes, tag);
-        let verdict = tested(bytes, tag, field(reader, tag, length));
-        if is_refused(verdict) {
-            return verdict;
-        }
+        tested(bytes, tag, field(reader, tag, length))?;
         reader = past(reader, tag, length);
-        tag = tag + 1;
     }
     ended(bytes, reader.place)
 }
@@ -32,16 +26,14 @@ pub fn fields_refusal(bytes: &[u8]) -> Verdict
 fn tested(bytes: &[u8], tag: u8, found: Field) -> Verdict
     ensures { result ≡ field_says found ⨾ cond (eqb tag 1) (sizes (head_of bytes.now)) accepted }
 {
-    if let Field::Unfit(number, at) = found {
-        return Verdict::Refused(number, at);
+    found?;
+    if tag != 1 || sized(head_of(bytes)) {
+        return Ok(());
     }
-    if tag != 1 {
-        return Verdict::Accepted;
-    }
-    if sized(head_of(bytes)) {
-        return Verdict::Accepted;
-    }
-    Verdict::Refused(4, 0)
+    Err(Refusal {
+        number: 4,
+        place: 0,
+    })
 }
 
 // The end of the file: no byte stands after the last field.
@@ -49,7 +41,7 @@ fn ended(bytes: &[u8], place: usize) -> Verdict
     ensures { result ≡ test (eqb place (length bytes.now)) 9 place }
 {
     if place != bytes.len() {
-        return Verdict::Refused(9, place);
+        return Err(Refusal { number: 9, place });
     }
-    Verdict::Accepted
+    Ok(())
 }

@@ -51,16 +51,10 @@ pub(crate) fn block_count(bytes: &[u8]) -> usize
 pub(crate) fn body_length(bytes: &[u8], tag: u8) -> usize
     ensures { result ≡ body_length (head_of bytes.now) tag }
 {
-    if tag == 1 {
-        return 4;
+    match tag {
+        1 => 4,
+        2 => restraint_at(bytes) - BLOCKS_AT,
+        3 => 16,
+        _ => 4 * block_count(bytes),
     }
-    if tag == 2 {
-        return restraint_at(bytes) - BLOCKS_AT;
-    }
-    if tag == 3 {
-        return 16;
-    }
-    let lists = byte(bytes, 6) as usize;
-    let residues = byte(bytes, 3) as usize;
-    4 * (lists * residues)
 }

@@ -32,8 +32,5 @@ pub fn past<'a>(reader: Reader<'a>, tag: u8, length: usize) -> Reader<'a>
         × (result.place ≡ field_next (field_at reader.entry.bytes.now reader.entry.place tag length) reader.entry.place) }
 {
     let place = past_at(reader.bytes, reader.place, tag, length);
-    Reader {
-        bytes: reader.bytes,
-        place,
-    }
+    Reader { place, ..reader }
 }

@@ -1,12 +1,11 @@
 -- What the steps of the call from a design speak of. Assumes nothing.
 use Rattle.std.specs.Prelude.{ℕ, ◌*◌, List, length}
 use Rattle.records.specs.declared.Head.{Head}
-use Rattle.records.specs.declared.Verdict.{Verdict}
 use Rattle.records.specs.declared.Parameters.{Parameters}
 use Rattle.records.specs.declared.GroupParameters.{GroupParameters}
 use Rattle.records.specs.declared.GroupedSet.{GroupedSet}
 use Rattle.meaning.specs.Design.{blocks, list_length}
-use Rattle.meaning.specs.Refusals.{◌⨾◌, sizes, length_is}
+use Rattle.meaning.specs.Refusals.{Verdict, ◌⨾◌, sizes, length_is}
 use Rattle.meaning.specs.Calls.{given, written, develop_verdict}
 use Rattle.meaning.specs.Groups.{groups_fit, group_parameters_of, no_group_parameters, grouped_word_at}
 

@@ -2,10 +2,9 @@
 use Rattle.std.specs.Prelude.{ℕ, Bool, List, [], get_or, eqb}
 use Rattle.algebra.specs.Ranges.{all}
 use Rattle.algebra.specs.Tables.{entry}
-use Rattle.records.specs.declared.Verdict.{Verdict}
 use Rattle.records.specs.declared.GroupCounts.{GroupCounts}
 use Rattle.records.specs.declared.Grouped.{Grouped}
-use Rattle.meaning.specs.Refusals.{test}
+use Rattle.meaning.specs.Refusals.{Verdict, test}
 use Rattle.meaning.specs.Calls.{given}
 use Rattle.meaning.specs.Groups.{one_group, group_size, mate, stranger, meets_as, no_counts}
 

@@ -11,7 +11,7 @@ ghost use Rattle.groups.specs.Base.{sizes_verdict, no_set, in_groups_of, laid_an
 
 use balance::judge_by_differences;
 use design::{develop, objects, sized};
-use records::{GroupCounts, GroupParameters, GroupedSet, Head, Parameters, Verdict};
+use records::{GroupCounts, GroupParameters, GroupedSet, Head, Parameters, Refusal, Verdict};
 use verdicts::is_refused;
 use words::holds;
 
@@ -21,6 +21,7 @@ pub fn group_base(head: Head, blocks: &[u8], g: usize, words: &mut [u64]) -> Gro
     ensures words_after { words.new ≡ base_words head blocks.now g words.old }
 {
     let fits = sizes_refusal(head, blocks, g);
+    // A refusal hands back zeros beside its verdict.
     if is_refused(fits) {
         return no_set(fits);
     }
@@ -46,6 +47,7 @@ fn lay_groups(
     ensures words_after { words.new ≡ laid_words head blocks.now g words.old }
 {
     let developed = develop(head, blocks, words);
+    // A refusal hands back zeros beside its verdict.
     if is_refused(developed) {
         return no_set(developed);
     }
@@ -54,7 +56,7 @@ fn lay_groups(
     group_words(v, g, 2 * b, words);
     let parameters = in_groups(g as u64, base);
     GroupedSet {
-        verdict: Verdict::Accepted,
+        verdict: Ok(()),
         parameters,
     }
 }
@@ -64,23 +66,26 @@ fn sizes_refusal(head: Head, blocks: &[u8], g: usize) -> Verdict
     ensures { result ≡ sizes_verdict head (length blocks.now) g }
 {
     if !sized(head) {
-        return Verdict::Refused(4, 0);
+        return Err(Refusal {
+            number: 4,
+            place: 0,
+        });
     }
     let p = head.p;
     let m = head.m;
     if blocks.len() != 2 * p * m {
-        return Verdict::Refused(3, 0);
+        return Err(Refusal {
+            number: 3,
+            place: 0,
+        });
     }
-    if g < 2 {
-        return Verdict::Refused(14, 0);
+    if !(2..=50).contains(&g) || 50 < g * objects(head) {
+        return Err(Refusal {
+            number: 14,
+            place: 0,
+        });
     }
-    if 50 < g {
-        return Verdict::Refused(14, 0);
-    }
-    if 50 < g * objects(head) {
-        return Verdict::Refused(14, 0);
-    }
-    Verdict::Accepted
+    Ok(())
 }
 
 // Replaces each of the first c words, of objects below v, by the word of its members.
@@ -88,8 +93,8 @@ fn group_words(v: usize, g: usize, c: usize, words: &mut [u64])
     requires { (g ≤ 50) × (v ≤ 50) × (g * v ≤ 50) × (c ≤ length words.old) }
     ensures { words.new ≡ over c (λ k. word_in_members g v (get_or words.old k 0)) words.old }
 {
-    for k in 0..c {
-        words[k] = group_word(v, g, words[k]);
+    for word in &mut words[..c] {
+        *word = group_word(v, g, *word);
     }
 }
 

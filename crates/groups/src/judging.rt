@@ -4,10 +4,10 @@ ghost use Rattle.std.specs.Prelude.{◌≡◌, true, ◌≤◌, ◌<◌, length}
 ghost use Rattle.meaning.specs.Groups.{even_groups, meets_as, grouped_answer};
 ghost use Rattle.groups.specs.Tables.{row_alike, tables_alike, tables_grouped, no_grouped};
 
-use crate::labels::{mate, stranger};
+use crate::labels::first_other;
 use crate::lists::{list_refusal, write_words};
 use balance::{count_company, count_opposition};
-use records::{GroupCounts, Grouped, Verdict};
+use records::{GroupCounts, Grouped, Refusal, Verdict};
 use verdicts::is_refused;
 
 // The verdict on some blocks, with the four counts where they are partially balanced with respect to the groups.
@@ -15,6 +15,7 @@ pub fn grouped(count: usize, v: usize, p: usize, blocks: &[u8], groups: &[u8]) -
     ensures { result ≡ grouped_answer count v p blocks.now groups.now }
 {
     let listed = list_refusal(count, v, p, blocks, groups);
+    // A refusal hands back zeros beside its verdict.
     if is_refused(listed) {
         return no_grouped(listed);
     }
@@ -35,8 +36,8 @@ fn judge_groups(
     requires { (v ≤ 50) × (length groups.now ≡ v) × (even_groups groups.now ≡ true) }
     ensures { result ≡ tables_grouped v groups.now company opposition }
 {
-    let near = mate(groups);
-    let far = stranger(groups);
+    let near = first_other(groups, true);
+    let far = first_other(groups, false);
     let counts = GroupCounts {
         l11: company[near][0],
         l21: opposition[near][0],
@@ -44,15 +45,18 @@ fn judge_groups(
         l22: opposition[far][0],
     };
     if !tables_alike(&company, &opposition, v, groups, counts) {
-        return no_grouped(Verdict::Refused(6, 0));
+        return no_grouped(Err(Refusal {
+            number: 6,
+            place: 0,
+        }));
     }
     Grouped {
-        verdict: Verdict::Accepted,
+        verdict: Ok(()),
         counts,
     }
 }
 
-// Whether every pair of the first v objects has the counts of its kind.
+// Whether every pair of the first v objects has the counts of its kind. A row is told the number of its object, so the loop goes by the number.
 fn tables_alike(
     company: &[[u64; 50]; 50],
     opposition: &[[u64; 50]; 50],
@@ -71,7 +75,7 @@ fn tables_alike(
     true
 }
 
-// Whether object i has the counts of their kind with every object before it.
+// Whether object i has the counts of their kind with every object before it. Three lists are read at one place, so the loop goes by the place.
 fn row_alike(
     company: &[u64; 50],
     opposition: &[u64; 50],
@@ -96,15 +100,10 @@ fn meets_as(counts: GroupCounts, one: bool, together: u64, against: u64) -> bool
     ensures { result ≡ meets_as counts one together against }
 {
     if one {
-        if together != counts.l11 {
-            return false;
-        }
-        return against == counts.l21;
+        together == counts.l11 && against == counts.l21
+    } else {
+        together == counts.l12 && against == counts.l22
     }
-    if together != counts.l12 {
-        return false;
-    }
-    against == counts.l22
 }
 
 // What a refused call hands back: its verdict, and zeros.

@@ -6,8 +6,7 @@ ghost use Rattle.meaning.specs.Groups.{list_sized, strays, stray, list_verdict};
 ghost use Rattle.groups.specs.Words.{list_word_at};
 
 use crate::labels::even_groups;
-use design::stands_among;
-use records::Verdict;
+use records::{Refusal, Verdict};
 
 // Why a list of blocks is refused, or that it is accepted: the sizes, the two lengths, the groups, then the first byte that is no object or stands
 // twice in its block.
@@ -21,59 +20,58 @@ pub(crate) fn list_refusal(
     ensures { result ≡ list_verdict count v p blocks.now groups.now }
 {
     if !list_sized(count, v, p) {
-        return Verdict::Refused(4, 0);
+        return Err(Refusal {
+            number: 4,
+            place: 0,
+        });
     }
     if blocks.len() != 2 * p * count {
-        return Verdict::Refused(3, 0);
+        return Err(Refusal {
+            number: 3,
+            place: 0,
+        });
     }
     if groups.len() != v {
-        return Verdict::Refused(3, 0);
+        return Err(Refusal {
+            number: 3,
+            place: 0,
+        });
     }
     if !even_groups(groups) {
-        return Verdict::Refused(14, 0);
+        return Err(Refusal {
+            number: 14,
+            place: 0,
+        });
     }
     let at = stray(v, p, blocks);
     if at != blocks.len() {
-        return Verdict::Refused(5, at);
+        return Err(Refusal {
+            number: 5,
+            place: at,
+        });
     }
-    Verdict::Accepted
+    Ok(())
 }
 
 // Whether the sizes are the request's. Each is bounded before a product is made of it.
 fn list_sized(count: usize, v: usize, p: usize) -> bool
     ensures { result ≡ list_sized count v p }
 {
-    if count < 1 {
-        return false;
-    }
-    if 1300 < count {
-        return false;
-    }
-    if 50 < v {
-        return false;
-    }
-    if p < 1 {
-        return false;
-    }
-    if v / 2 < p {
-        return false;
-    }
-    true
+    (1..=1300).contains(&count) && v <= 50 && (1..=v / 2).contains(&p)
 }
 
-// The first byte that is no object or stands twice in its block, or the length where none does.
+// The first byte that is no object or stands twice in its block, or the length where none does. Whether a byte strays depends on its place, so the loop
+// goes by the place.
 fn stray(v: usize, p: usize, blocks: &[u8]) -> usize
     requires { (1 ≤ p) × (p ≤ 25) }
     ensures { result ≡ stray v p blocks.now }
 {
-    let mut i = 0;
-    while i < blocks.len() {
+    for i in 0..blocks.len() {
         if strays(v, p, blocks, i) {
             return i;
         }
-        i += 1;
     }
-    i
+    blocks.len()
 }
 
 // Whether byte i is no object, or stands earlier in its block.
@@ -82,15 +80,11 @@ fn strays(v: usize, p: usize, blocks: &[u8], i: usize) -> bool
     ensures { result ≡ strays v p blocks.now i }
 {
     let byte = blocks[i];
-    if (byte as usize) < v {
-        let start = i - i % (2 * p);
-        stands_among(&blocks[start..i], byte)
-    } else {
-        true
-    }
+    usize::from(byte) >= v || blocks[i - i % (2 * p)..i].contains(&byte)
 }
 
-// Writes the words of the blocks to the front of the words: left word, right word, next block.
+// Writes the words of the blocks to the front of the words: left word, right word, next block. A block has two words and two sides, so the loop goes by
+// its number.
 pub(crate) fn write_words(count: usize, p: usize, blocks: &[u8], words: &mut [u64])
     requires { (count ≤ 1300) × (p ≤ 25) × (2 * p * count ≤ length blocks.now) × (2 * count ≤ length words.old)
         × ((i : ℕ) → i < length blocks.now → get_or blocks.now i 0 < 50) }
@@ -111,8 +105,8 @@ fn side_word(side: &[u8]) -> u64
     ensures { result ≡ word side.now }
 {
     let mut sum: u64 = 0;
-    for k in 0..side.len() {
-        sum += 1u64 << (side[k] as usize);
+    for byte in side {
+        sum += 1u64 << *byte;
     }
     sum
 }

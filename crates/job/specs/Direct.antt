@@ -1,13 +1,12 @@
 -- A direct call on what a file holds. Assumes nothing.
-use Rattle.std.specs.Prelude.{ℕ, List, ℤ}
-use Rattle.records.specs.declared.Checked.{Checked}
+use Rattle.std.specs.Prelude.{Option, ℕ, List, ℤ}
 use Rattle.records.specs.declared.Spread.{Spread}
 use Rattle.records.specs.declared.Solved.{Solved}
-use Rattle.records.specs.declared.Verdict.{Verdict}
 use Rattle.meaning.specs.Calls.{job_verdict}
 use Rattle.meaning.specs.Edition2.{moved_on}
 use Rattle.meaning.specs.File.{head_of, blocks_of, readings_of, set_of, sum_of, placed}
-use Rattle.meaning.specs.Sheet.{check_answer}
+use Rattle.meaning.specs.Sheet.{Checked, check_answer}
+use Rattle.meaning.specs.Refusals.{Verdict}
 
 -- its verdict
 abbrev pub direct_verdict : List ℕ → Verdict
@@ -42,5 +41,5 @@ solved_on solved = record {
 }
 
 -- a sheet checked against what a file holds
-abbrev pub direct_checked : List ℕ → List ℤ → Spread → Checked
+abbrev pub direct_checked : List ℕ → List ℤ → Option Spread → Checked
 direct_checked s claims claimed = check_answer (head_of s) (blocks_of s) (readings_of s) (set_of s) (sum_of s) claims claimed

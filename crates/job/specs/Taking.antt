@@ -1,10 +1,9 @@
 -- Jobs taken into a pool one after another: what is pooled so far, and the answer after the last. Assumes nothing.
 use Rattle.std.specs.Prelude.{ℕ, suc, ◌+◌, ◌-◌, ◌*◌, ◌≤◌, ◌<◌, Bool, cond, ◌&&◌, List, [], ◌∷◌, ◌≡◌, eqb, ltb, leb, length}
-use Rattle.records.specs.declared.Verdict.{Verdict}
 use Rattle.records.specs.declared.Solved.{Solved}
 use Rattle.records.specs.declared.Pooled.{Pooled}
 use Rattle.meaning.specs.Wide.{value, wide, wide_zero}
-use Rattle.meaning.specs.Refusals.{accepted, refused}
+use Rattle.meaning.specs.Refusals.{Verdict, accepted, refused}
 use Rattle.meaning.specs.Calls.{given, solved_under, no_spreading}
 use Rattle.meaning.specs.File.{head_of, blocks_of, readings_of, set_of, read_verdict}
 use Rattle.meaning.specs.Pooled.{pool_limit, lengths_sum}

@@ -5,17 +5,20 @@ ghost use Rattle.meaning.specs.File.{placed};
 ghost use Rattle.job.specs.Direct.{place_limit};
 
 use fields::held;
-use records::Verdict;
+use records::{Refusal, Verdict};
 
 // A direct call's verdict moved to its place in the file.
 pub(crate) fn moved(bytes: &[u8], verdict: Verdict) -> Verdict
     requires { place verdict ≤ place_limit }
     ensures { result ≡ placed bytes.now verdict }
 {
-    match verdict {
-        Verdict::Accepted => Verdict::Accepted,
-        Verdict::Refused(number, i) => Verdict::Refused(number, file_place(bytes, number, i)),
-    }
+    let Err(Refusal { number, place }) = verdict else {
+        return verdict;
+    };
+    Err(Refusal {
+        number,
+        place: file_place(bytes, number, place),
+    })
 }
 
 // The place: a byte of the blocks, the start of the third field, the first byte of a reading. Any other number has no place of its own in the file.
@@ -24,17 +27,10 @@ fn file_place(bytes: &[u8], number: u8, i: usize) -> usize
     ensures { result ≡ place (placed bytes.now (refused number i)) }
 {
     let held = held(bytes);
-    if number == 5 {
-        return held.blocks_at + i;
+    match number {
+        5 => held.blocks_at + i,
+        7 | 11 => held.restraint_at,
+        8 => held.readings_at + 4 * i,
+        _ => i,
     }
-    if number == 7 {
-        return held.restraint_at;
-    }
-    if number == 11 {
-        return held.restraint_at;
-    }
-    if number == 8 {
-        return held.readings_at + 4 * i;
-    }
-    i
 }

@@ -6,7 +6,7 @@ ghost use Rattle.job.specs.Taking.{adds_up, EndToEnd, worked_job, no_pool, no_su
 
 use crate::solving::solve;
 use arithmetic::{add, spread_from};
-use records::{Pooled, Solved, Spread, Spreading, Verdict, Wide};
+use records::{Pooled, Refusal, Solved, Spreading, Verdict, Wide};
 use verdicts::is_refused;
 
 // The largest number of jobs.
@@ -30,20 +30,20 @@ pub fn pool(bytes: &[u8], lengths: &[usize]) -> Pooled
     if add_up(bytes.len(), lengths) {
         return pool_jobs(bytes, lengths);
     }
-    no_pool(Verdict::Refused(18, 0), 0)
+    no_pool(
+        Err(Refusal {
+            number: 18,
+            place: 0,
+        }),
+        0,
+    )
 }
 
 // Whether there are jobs, at most 64, and their lengths add to a total.
 fn add_up(total: usize, lengths: &[usize]) -> bool
     ensures { result ≡ adds_up total lengths.now }
 {
-    if lengths.len() < 1 {
-        return false;
-    }
-    if POOL_LIMIT < lengths.len() {
-        return false;
-    }
-    sum_is(total, lengths)
+    (1..=POOL_LIMIT).contains(&lengths.len()) && sum_is(total, lengths)
 }
 
 // Whether the lengths add to a total: each is taken away from what is left, so that no sum is made that could be too large.
@@ -51,19 +51,13 @@ fn sum_is(total: usize, lengths: &[usize]) -> bool
     ensures { result ≡ eqb (lengths_sum lengths.now) total }
 {
     let mut left = total;
-    let mut i = 0;
-    while i < lengths.len() {
-        let length = lengths[i];
+    for &length in lengths {
         if left < length {
             return false;
         }
-        left = left - length;
-        i += 1;
+        left -= length;
     }
-    if left != 0 {
-        return false;
-    }
-    true
+    left == 0
 }
 
 // Pools the jobs one after another; the first bad one ends it.
@@ -80,19 +74,18 @@ fn pool_jobs(bytes: &[u8], lengths: &[usize]) -> Pooled
         alike: 0,
     };
     let mut start = 0;
-    let mut i = 0;
-    while i < lengths.len() {
-        let end = start + lengths[i];
+    for (i, &length) in lengths.iter().enumerate() {
+        let end = start + length;
         let solved = work_out(&bytes[start..end]);
+        // A refusal hands back zeros too, so that the question mark does not serve.
         let verdict = solved.verdict;
         if is_refused(verdict) {
             return no_pool(verdict, i);
         }
         sums = with_job(sums, i, solved);
         start = end;
-        i += 1;
     }
-    finish(sums, i)
+    finish(sums, lengths.len())
 }
 
 // Works one file out in rooms of its own, which are long enough for every file.
@@ -106,6 +99,7 @@ fn work_out(bytes: &[u8]) -> Solved
 }
 
 // The sums with job i in them: they start with job 0, and every later job is held against its v and beta.
+#[tactic(auto, unfolding(crate::specs::Taking::with_job))]
 fn with_job(sums: Sums, i: usize, solved: Solved) -> Sums
     requires { Taken sums i solved }
     ensures { result ≡ with_job sums i solved }
@@ -115,12 +109,11 @@ fn with_job(sums: Sums, i: usize, solved: Solved) -> Sums
     let v = design.v;
     let beta = design.l2 - design.l1;
     if i == 0 {
-        let own = measured.q;
         return Sums {
             v,
             beta,
             vbeta: measured.vbeta,
-            q: own,
+            q: measured.q,
             freedom: measured.freedom,
             alike: 1,
         };
@@ -129,30 +122,24 @@ fn with_job(sums: Sums, i: usize, solved: Solved) -> Sums
     let q = add(sums.q, measured.q);
     let freedom = sums.freedom + measured.freedom;
     Sums {
-        v: sums.v,
-        beta: sums.beta,
-        vbeta: sums.vbeta,
         q,
         freedom,
         alike,
+        ..sums
     }
 }
 
 // How many jobs from the first on have v and beta of job 0, with job i of this v and beta.
+#[tactic(auto, unfolding(crate::specs::Taking::alike_with))]
 fn alike_with(sums: Sums, i: usize, v: u64, beta: u64) -> usize
     requires { i < pool_limit }
     ensures { result ≡ alike_with sums i v beta }
 {
-    if sums.alike != i {
-        return sums.alike;
+    if sums.alike == i && v == sums.v && beta == sums.beta {
+        i + 1
+    } else {
+        sums.alike
     }
-    if v != sums.v {
-        return sums.alike;
-    }
-    if beta != sums.beta {
-        return sums.alike;
-    }
-    i + 1
 }
 
 // The answer after the last of so many jobs: 17 where one differs from job 0, else the spread by the rule of one job.
@@ -160,11 +147,17 @@ fn finish(sums: Sums, count: usize) -> Pooled
     ensures { result ≡ finished sums count }
 {
     if sums.alike != count {
-        return no_pool(Verdict::Refused(17, 0), sums.alike);
+        return no_pool(
+            Err(Refusal {
+                number: 17,
+                place: 0,
+            }),
+            sums.alike,
+        );
     }
     let spreading = spread_from(sums.q, sums.vbeta, sums.freedom);
     Pooled {
-        verdict: Verdict::Accepted,
+        verdict: Ok(()),
         index: 0,
         spreading,
     }
@@ -179,7 +172,7 @@ fn no_pool(verdict: Verdict, index: usize) -> Pooled
         vbeta: 0,
         freedom: 0,
         hundredths: 0,
-        spread: Spread::None,
+        spread: None,
     };
     Pooled {
         verdict,

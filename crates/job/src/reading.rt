@@ -15,15 +15,15 @@ use verdicts::{is_refused, no_job};
 pub fn read(bytes: &[u8]) -> JobRead
     ensures { result ≡ read_answer bytes.now }
 {
+    // A refusal hands back zeros too, so that the question mark does not serve.
     let verdict = read_refusal(bytes);
     if is_refused(verdict) {
         return no_job(verdict);
     }
     let held = held(bytes);
-    let head = held.head;
     JobRead {
-        verdict: Verdict::Accepted,
-        head,
+        verdict: Ok(()),
+        head: held.head,
         blocks_at: held.blocks_at,
         readings_at: held.readings_at,
         set: held.set,
@@ -35,12 +35,8 @@ pub fn read(bytes: &[u8]) -> JobRead
 pub(crate) fn read_refusal(bytes: &[u8]) -> Verdict
     ensures { result ≡ read_verdict bytes.now }
 {
-    let framed = fields_refusal(bytes);
-    if is_refused(framed) {
-        return framed;
-    }
-    let direct = direct_refusal(bytes);
-    moved(bytes, direct)
+    fields_refusal(bytes)?;
+    moved(bytes, direct_refusal(bytes))
 }
 
 // A direct call's verdict on what a file holds, whose fields are there.
@@ -49,16 +45,13 @@ fn direct_refusal(bytes: &[u8]) -> Verdict
     ensures { result ≡ direct_verdict bytes.now }
 {
     let held = held(bytes);
-    let head = held.head;
-    let start = held.blocks_at;
-    let end = held.restraint_at;
-    let count = held.count;
+    // Decoded here: a function that handed the readings out would copy them.
     let mut decoded = [0i32; 1300];
-    readings(bytes, held.readings_at, count, &mut decoded);
+    readings(bytes, held.readings_at, held.count, &mut decoded);
     refusal(
-        head,
-        &bytes[start..end],
-        &decoded[..count],
+        held.head,
+        &bytes[held.blocks_at..held.restraint_at],
+        &decoded[..held.count],
         held.set,
         held.sum,
     )

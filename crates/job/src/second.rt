@@ -11,30 +11,29 @@ use crate::solving::solve;
 use design::objects;
 use fields::{edition_refusal, fields_refusal, four_end, held, optional_refusal};
 use numbers::byte;
-use records::{JobRead, SecondRead, Solved, Verdict};
+use records::{JobRead, Refusal, SecondRead, Solved, Verdict};
 use verdicts::{is_refused, no_job, no_solution};
 
 // The largest number of bytes.
 const FILE_LIMIT: usize = 16384;
 
 // Where the four fields start.
-const START_AT: usize = 4;
+pub(crate) const START_AT: usize = 4;
 
 // Reads a file of the second edition: what reading its four fields hands back, moved to its places, and where the names stand.
 pub fn read_second(bytes: &[u8]) -> SecondRead
     ensures { result ≡ read_answer2 bytes.now }
 {
+    // A refusal hands back zeros too, so that the question mark does not serve.
     let verdict = second_refusal(bytes);
     if is_refused(verdict) {
         let job = no_job(verdict);
         return SecondRead { job, names_at: 0 };
     }
-    let end = four_end(bytes);
-    let held = held(&bytes[START_AT..end]);
-    let head = held.head;
+    let held = held(four_fields(bytes));
     let job = JobRead {
-        verdict: Verdict::Accepted,
-        head,
+        verdict: Ok(()),
+        head: held.head,
         blocks_at: START_AT + held.blocks_at,
         readings_at: START_AT + held.readings_at,
         set: held.set,
@@ -42,7 +41,7 @@ pub fn read_second(bytes: &[u8]) -> SecondRead
     };
     SecondRead {
         job,
-        names_at: names_at(bytes, end),
+        names_at: names_at(bytes, four_end(bytes)),
     }
 }
 
@@ -58,58 +57,54 @@ pub fn solve_second(
     ensures values_after { values.new ≡ solve_values2 bytes.now words.old values.old deviations.old }
     ensures deviations_after { deviations.new ≡ solve_deviations2 bytes.now words.old values.old deviations.old }
 {
+    // A refusal hands back zeros too, so that the question mark does not serve.
     let framed = second_fields(bytes);
     if is_refused(framed) {
         return no_solution(framed);
     }
-    let end = four_end(bytes);
-    let solved = solve(&bytes[START_AT..end], words, values, deviations);
-    solved_on(solved)
+    solved_on(solve(four_fields(bytes), words, values, deviations))
 }
 
 // The restraint set that stands in the four fields, 0 where nothing does.
 pub fn set_second(bytes: &[u8]) -> u64
     ensures { result ≡ set_of (four_of bytes.now) }
 {
-    if bytes.len() < START_AT {
-        return 0;
-    }
-    let end = four_end(bytes);
-    let held = held(&bytes[START_AT..end]);
-    let set = held.set;
-    set
+    held(four_fields(bytes)).set
 }
 
 // The verdict of reading: the fields, then what the four hold, each refusal at its place in the file.
 pub(crate) fn second_refusal(bytes: &[u8]) -> Verdict
     ensures { result ≡ read_verdict2 bytes.now }
 {
-    let framed = second_fields(bytes);
-    if is_refused(framed) {
-        return framed;
-    }
-    let end = four_end(bytes);
-    moved_on(read_refusal(&bytes[START_AT..end]))
+    second_fields(bytes)?;
+    moved_on(read_refusal(four_fields(bytes)))
 }
 
 // The fields: too long before all else, the edition, the four fields, and the optional ones.
+#[tactic(auto, using(std::proofs::lemmas::Bool::Decides::nat_tests), unfolding(meaning::specs::Edition2::fields2))]
 fn second_fields(bytes: &[u8]) -> Verdict
     ensures { result ≡ fields2 bytes.now }
 {
     if FILE_LIMIT < bytes.len() {
-        return Verdict::Refused(4, 0);
+        return Err(Refusal {
+            number: 4,
+            place: 0,
+        });
     }
-    let edition = edition_refusal(bytes);
-    if is_refused(edition) {
-        return edition;
+    edition_refusal(bytes)?;
+    let four = four_fields(bytes);
+    moved_on(fields_refusal(four))?;
+    optional_refusal(bytes, four_end(bytes), names_length(four))
+}
+
+// The four fields: what follows the edition field, as far as they go by their sizes.
+pub(crate) fn four_fields(bytes: &[u8]) -> &[u8]
+    ensures { result.now ≡ four_of bytes.now }
+{
+    if bytes.len() < START_AT {
+        return &[];
     }
-    let end = four_end(bytes);
-    let framed = moved_on(fields_refusal(&bytes[START_AT..end]));
-    if is_refused(framed) {
-        return framed;
-    }
-    let names = names_length(&bytes[START_AT..end]);
-    optional_refusal(bytes, end, names)
+    &bytes[START_AT..four_end(bytes)]
 }
 
 // A refusal of the four fields moved to its place in the whole file; 6 and 10 have none.
@@ -118,16 +113,11 @@ fn moved_on(verdict: Verdict) -> Verdict
     ensures { result ≡ moved_on verdict }
 {
     match verdict {
-        Verdict::Accepted => Verdict::Accepted,
-        Verdict::Refused(number, at) => {
-            if number == 6 {
-                return verdict;
-            }
-            if number == 10 {
-                return verdict;
-            }
-            Verdict::Refused(number, START_AT + at)
-        }
+        Err(Refusal { number, place }) if number != 6 && number != 10 => Err(Refusal {
+            number,
+            place: START_AT + place,
+        }),
+        _ => verdict,
     }
 }
 
@@ -136,15 +126,9 @@ fn solved_on(solved: Solved) -> Solved
     requires { place solved.verdict ≤ moved_limit }
     ensures { result ≡ solved_on solved }
 {
-    let first = solved.verdict;
-    let verdict = moved_on(first);
-    let parameters = solved.parameters;
-    let spreading = solved.spreading;
     Solved {
-        verdict,
-        parameters,
-        denominator: solved.denominator,
-        spreading,
+        verdict: moved_on(solved.verdict),
+        ..solved
     }
 }
 
@@ -162,8 +146,5 @@ fn names_at(bytes: &[u8], end: usize) -> usize
     requires { end ≤ file_limit2 }
     ensures { result ≡ cond (eqb (get_or bytes.now end 0) names_tag) (end + 3) 0 }
 {
-    if byte(bytes, end) != 128 {
-        return 0;
-    }
-    end + 3
+    if byte(bytes, end) == 128 { end + 3 } else { 0 }
 }

@@ -18,21 +18,19 @@ pub fn solve(bytes: &[u8], words: &mut [u64], values: &mut [i64], deviations: &m
     ensures values_after { values.new ≡ solve_values bytes.now words.old values.old deviations.old }
     ensures deviations_after { deviations.new ≡ solve_deviations bytes.now words.old values.old deviations.old }
 {
+    // A refusal hands back zeros too, so that the question mark does not serve.
     let framed = fields_refusal(bytes);
     if is_refused(framed) {
         return no_solution(framed);
     }
     let held = held(bytes);
-    let head = held.head;
-    let start = held.blocks_at;
-    let end = held.restraint_at;
-    let count = held.count;
+    // Decoded here: a function that handed the readings out would copy them.
     let mut decoded = [0i32; 1300];
-    readings(bytes, held.readings_at, count, &mut decoded);
+    readings(bytes, held.readings_at, held.count, &mut decoded);
     let solved = analyse(
-        head,
-        &bytes[start..end],
-        &decoded[..count],
+        held.head,
+        &bytes[held.blocks_at..held.restraint_at],
+        &decoded[..held.count],
         held.set,
         held.sum,
         words,
@@ -47,14 +45,8 @@ fn in_file(bytes: &[u8], solved: Solved) -> Solved
     requires { place solved.verdict ≤ place_limit }
     ensures { result ≡ solved_in bytes.now solved }
 {
-    let direct = solved.verdict;
-    let verdict = moved(bytes, direct);
-    let parameters = solved.parameters;
-    let spreading = solved.spreading;
     Solved {
-        verdict,
-        parameters,
-        denominator: solved.denominator,
-        spreading,
+        verdict: moved(bytes, solved.verdict),
+        ..solved
     }
 }

@@ -1,5 +1,5 @@
 -- The restraint, test by test. Assumes nothing.
-use mathlib.Core.Path.{◌≡◌, refl, ◌∙◌}
+use mathlib.Core.Path.{◌≡◌, refl, sym, ◌∙◌}
 use mathlib.Core.Bool.{Bool, true, false, ◌&&◌}
 use Prim.Native.Nat.{ℕ, ◌*◌, ◌/◌, ◌^◌, ◌≤◌, ◌<◌}
 use native.Mathlib.Nat.{div-lt_iff_lt-mul}
@@ -11,7 +11,12 @@ use lib.IntN.{ℤ, nat_abs}
 use Rattle.algebra.proofs.Tests.{and_both}
 use Rattle.records.specs.declared.Head.{Head}
 use Rattle.meaning.specs.Design.{objects}
-use Rattle.meaning.specs.Analysis.{members}
+use Rattle.algebra.specs.Ranges.{sum_ℕ}
+use Rattle.meaning.specs.Analysis.{member, members}
+use Rattle.laws.specs.Fits.{Fits}
+use Rattle.words.proofs.Members.{ones_members}
+use Rattle.design.specs.Within.{within}
+use Rattle.design.proofs.Within.{within-sizes}
 use Rattle.meaning.specs.Refusals.{accepted, refused, sum_limit, in_restraint, restraint}
 use Rattle.laws.proofs.Chains.{InOrder, in_order, accepts, goes_on, refused_stays, test_yes, test_no}
 
@@ -49,3 +54,20 @@ restrained_no h w M n = by (ltb 0 w && ltb w (2 ^ objects h) && leb (nat_abs M) 
     by : (t : Bool) → ltb 0 w && ltb w (2 ^ objects h) && leb (nat_abs M) sum_limit ≡ t → restraint h w M ≡ refused 7 0
     by true e = absurd (n (in_order h w M (test_yes _ 7 0 e)))
     by false e = refused_stays _ 7 0 (test_no _ 7 0 e)
+
+-- the same as the code has it: v is read off the sizes, and the objects of the set are counted
+module _ (h : Head) (w : ℕ) (M : ℤ) (f : Fits h) (some : 0 < w) (none : w / 2 ^ within h (objects h) ≡ 0) (most : nat_abs M ≤ sum_limit) where
+  inside : w < 2 ^ objects h
+  inside = none_past (objects h) w (rw (within-sizes h (objects h) f) at none)
+
+  order : InOrder h w M
+  order = record { set-some = some; set-inside = inside; sum-most = most }
+
+  counted : sum_ℕ 64 (member w) ≡ members (objects h) w
+  counted = ones_members (objects h) w (omega (arith, f.objects-most)) inside
+
+  pub too_few : sum_ℕ 64 (member w) < 2 → refused 11 0 ≡ restraint h w M
+  too_few few = sym (one_standard h w M order (omega (arith, counted)))
+
+  pub enough : 2 ≤ sum_ℕ 64 (member w) → accepted ≡ restraint h w M
+  enough two = sym (restrained_yes h w M order (omega (arith, counted)))

@@ -13,8 +13,7 @@ use weighing::{reach_refusal, slices_refusal};
 pub fn refusal(head: Head, blocks: &[u8], readings: &[i32], set: u64, sum: i64) -> Verdict
     ensures { result ≡ job_verdict head blocks.now readings.now set sum }
 {
-    let judged = judged_job(head, blocks, readings, set, sum);
-    judged.verdict
+    judged_job(head, blocks, readings, set, sum).verdict
 }
 
 // The verdict on a whole job, with the parameters of its design where it is accepted.
@@ -22,6 +21,7 @@ pub fn judged_job(head: Head, blocks: &[u8], readings: &[i32], set: u64, sum: i6
     ensures { result ≡ job_judged head blocks.now readings.now set sum }
 {
     let sliced = slices_refusal(head, blocks, readings);
+    // A refusal hands back zeros beside its verdict.
     if is_refused(sliced) {
         return no_judgement(sliced);
     }

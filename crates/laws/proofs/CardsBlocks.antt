@@ -1,4 +1,5 @@
 -- The blocks of a card: a line for each, and the bytes of the block list. Assumes nothing.
+use Rattle.std.proofs.Common.{Some}
 use mathlib.Core.Path.{◌≡◌, refl, sym, ap, ap₂, ◌∙◌, subst}
 use mathlib.Core.Bool.{Bool, true, false, cond}
 use mathlib.Core.List.{List, [], ◌∷◌, ◌++◌, append-nil}
@@ -44,7 +45,7 @@ object_word x = cond (eqb x 255) (ascii "inf") (digits 20 x)
 record Object (w : List ℕ) (x : ℕ) : Type 0 where
   long : 0 < length w
   word : wordly w ≡ true
-  read : object_of w ≡ record { read = true; number = x }
+  read : object_of w ≡ Some x
   no_bar : same w (ascii "|") ≡ false
 
 object-text : (x : ℕ) → object_text x ≡ 32 ∷ object_word x
@@ -60,7 +61,7 @@ unfolding ascii wordly same object_of
 object x l = by (eqb x 255) refl
   where
     by : (b : Bool) → eqb x 255 ≡ b → Object (cond b (ascii "inf") (digits 20 x)) x
-    by true e = record { long = omega arith; word = refl; read = ap (λ (y : ℕ). record { read = true; number = y }) (sym (eqb-true x 255 e)); no_bar = refl }
+    by true e = record { long = omega arith; word = refl; read = ap (λ (y : ℕ). Some y) (sym (eqb-true x 255 e)); no_bar = refl }
     by false e =
         let small : x ≤ 254 = below x l (eqb-false x 255 e) in
         record {

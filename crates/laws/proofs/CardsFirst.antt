@@ -5,6 +5,7 @@
 --     first_short                   no card is longer than 65,536 bytes
 --     first-again, first-accepted   the card that is printed for an accepted file makes that very file, and is accepted
 -- Assumes nothing.
+use Rattle.std.proofs.Common.{Ok, Err}
 use mathlib.Core.Path.{◌≡◌, refl, sym, ap, ap₂, ◌∙◌, subst}
 use mathlib.Core.Bool.{Bool, true, false, cond, not}
 use mathlib.Core.List.{List, [], ◌∷◌, ◌++◌, append_assoc, append-nil}
@@ -18,10 +19,8 @@ use lib.Seq.{take_at, drop_at}
 use borrow.Author.Tests.{le-ltb}
 use Rattle.records.specs.declared.Head.{Head}
 use Rattle.records.specs.declared.Card.{Card}
-use Rattle.records.specs.declared.Verdict.{Verdict}
-use Rattle.records.specs.declared.Verdict.TheVariants.{Accepted, Refused}
 use Rattle.meaning.specs.Design.{objects, blocks, list_length}
-use Rattle.meaning.specs.Refusals.{accepted, refused}
+use Rattle.meaning.specs.Refusals.{Verdict, accepted, refused}
 use Rattle.meaning.specs.Calls.{job_verdict}
 use Rattle.meaning.specs.File.{body_length, head_of, blocks_of, readings_of, set_of, sum_of, read_verdict}
 use Rattle.meaning.specs.Writing.{Bytes, bytes_of, sizes_body, restraint_body, readings_body, field_bytes, file_of}
@@ -161,8 +160,8 @@ unfolding card_text_of
 first_short s = by (read_verdict s) refl
   where
     by : (v : Verdict) → read_verdict s ≡ v → length (card_under v s) ≤ card_limit
-    by Accepted e = omega (arith, four-length (head_of s) (blocks_of s) (readings_of s) (set_of s) (sum_of s) (file-job s e).1)
-    by (Refused k place) e = omega (arith, refused-length k place)
+    by (Ok done) e = omega (arith, four-length (head_of s) (blocks_of s) (readings_of s) (set_of s) (sum_of s) (file-job s e).1)
+    by (Err why) e = omega (arith, refused-length why.number why.place)
 
 module _ (s : List ℕ) (b : Bytes s) (e : read_verdict s ≡ accepted) where
   held : job_verdict (head_of s) (blocks_of s) (readings_of s) (set_of s) (sum_of s) ≡ accepted

@@ -4,6 +4,7 @@
 --     signed_word_lem, signed-read, reading-word   a number with its sign
 --     not-digits      digits are no other word
 -- Assumes nothing.
+use Rattle.std.proofs.Common.{Some}
 use mathlib.Core.Path.{◌≡◌, refl, ◌∙◌}
 use mathlib.Core.Bool.{Bool, true, false, cond, not, ◌&&◌}
 use mathlib.Core.List.{List, [], ◌∷◌, ◌++◌}
@@ -104,7 +105,7 @@ module _ (n : ℕ) where
   not-digits y v l = digital-not (digits 20 n) y v (digits-digital 20 n) l
 
   -- they read as their number
-  pub digits-read : (limit : ℕ) → n ≤ limit → n < 10 ^ 20 → number_of limit (digits 20 n) ≡ record { read = true; number = n }
+  pub digits-read : (limit : ℕ) → n ≤ limit → n < 10 ^ 20 → number_of limit (digits 20 n) ≡ Some n
   unfolding number_of is_number
   digits-read limit l h =
       rw (ne_eqb (length (digits 20 n)) 0 (λ q. absurd (omega (arith, digits_long, q))), digits-digital 20 n, digits_decimal 19 n h, le-ltb limit n l)
@@ -134,7 +135,7 @@ unfolding same
 signed-not (pos n) y v l = not-digits n y v l
 signed-not (negsuc n) y v l = rw (ne_eqb 45 y (λ q. absurd (omega (arith, q))))
 
-pub signed-read : (z : ℤ) → nat_abs z ≤ 9223372036854775807 → signed_of (signed_word z) ≡ record { read = true; number = z }
+pub signed-read : (z : ℤ) → nat_abs z ≤ 9223372036854775807 → signed_of (signed_word z) ≡ Some z
 unfolding signed_of
 signed-read (pos n) l = rw (digital-plain (digits 20 n) (digits-digital 20 n), digits-read n 9223372036854775807 l (omega arith))
 signed-read (negsuc n) l = rw (digits-read (suc n) 9223372036854775808 (omega arith) (omega arith))

@@ -1,4 +1,5 @@
 -- The restraint and the readings of a card: the members of its set, the accepted sum, a reading for each block. Assumes nothing.
+use Rattle.std.proofs.Common.{Some}
 use mathlib.Core.Path.{◌≡◌, refl, sym, ap, ap₂, ◌∙◌, subst}
 use mathlib.Core.Bool.{Bool, true, false, cond}
 use mathlib.Core.List.{List, [], ◌∷◌, ◌++◌, append_assoc, append-nil}
@@ -70,7 +71,7 @@ module _ (h : Head) (c len : ℕ) where
   abbrev within : ℕ → ℕ → Card
   within k set = state k h c set (pos 0) 0 len
 
-  member-read : (i : ℕ) → i ≤ 63 → member_of h (digits 20 i) ≡ record { read = true; number = i }
+  member-read : (i : ℕ) → i ≤ 63 → member_of h (digits 20 i) ≡ Some i
   unfolding member_of ascii
   member-read i l = rw (not-digits i 105 (110 ∷ 102 ∷ []) (omega arith)) (digits-read i 63 l (omega arith))
 

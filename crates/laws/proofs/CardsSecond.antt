@@ -4,6 +4,7 @@
 --     second-accepted   it is accepted
 --     second_short      no card is longer than 65,536 bytes
 -- Assumes nothing.
+use Rattle.std.proofs.Common.{Ok, Err}
 use mathlib.Core.Path.{◌≡◌, refl, sym, ap, ap₂, ◌∙◌, subst}
 use mathlib.Core.Bool.{Bool, true, false, cond}
 use mathlib.Core.List.{List, ◌++◌, append_assoc}
@@ -17,10 +18,8 @@ use lib.Seq.{drop-drop}
 use borrow.Author.Tests.{lt-ltb, le-ltb}
 use Rattle.records.specs.declared.Head.{Head}
 use Rattle.records.specs.declared.Card.{Card}
-use Rattle.records.specs.declared.Verdict.{Verdict}
-use Rattle.records.specs.declared.Verdict.TheVariants.{Accepted, Refused}
 use Rattle.meaning.specs.Design.{blocks, list_length}
-use Rattle.meaning.specs.Refusals.{accepted}
+use Rattle.meaning.specs.Refusals.{Verdict, accepted}
 use Rattle.meaning.specs.Calls.{job_verdict}
 use Rattle.meaning.specs.File.{head_of, blocks_of, readings_of, set_of, sum_of, end_at, read_verdict}
 use Rattle.meaning.specs.Writing.{Bytes, readings_body, file_of}
@@ -169,5 +168,5 @@ unfolding card_text_of2
 second_short s b = by (read_verdict2 s) refl
   where
     by : (v : Verdict) → read_verdict2 s ≡ v → length (card_under2 v s) ≤ card_limit
-    by Accepted e = subst (λ (v : Verdict). length (card_under2 v s) ≤ card_limit) e (short s b e)
-    by (Refused k place) e = omega (arith, refused-length k place)
+    by (Ok done) e = subst (λ (v : Verdict). length (card_under2 v s) ≤ card_limit) e (short s b e)
+    by (Err why) e = omega (arith, refused-length why.number why.place)

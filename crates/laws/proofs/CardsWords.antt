@@ -5,6 +5,7 @@
 --     card-plain, bytes-plain     the card after some words, and the bytes that they add, go by the words' bytes alone
 --     same-words                  two cards of the same words: the same file, the same number, and the same is wanted
 -- Assumes nothing.
+use Rattle.std.proofs.Common.{Ok, Err}
 use mathlib.Core.Path.{◌≡◌, refl, sym, ap, ap₂, ◌∙◌}
 use mathlib.Core.Bool.{Bool, true, false, cond, not, ◌&&◌, ◌||◌}
 use mathlib.Core.List.{List, [], ◌∷◌, ◌++◌, map, append_assoc, append-nil}
@@ -15,9 +16,7 @@ use lib.ListN.{length}
 use borrow.Author.Tests.{lt-ltb, le-ltb, ne_eqb}
 use Rattle.algebra.proofs.Tests.{and_left, and_right}
 use Rattle.records.specs.declared.Card.{Card}
-use Rattle.records.specs.declared.Verdict.{Verdict}
-use Rattle.records.specs.declared.Verdict.TheVariants.{Accepted, Refused}
-use Rattle.meaning.specs.Refusals.{refused, number}
+use Rattle.meaning.specs.Refusals.{Verdict, refused, number}
 use Rattle.meaning.specs.File.{read_verdict}
 use Rattle.meaning.specs.Edition2.{start_at, read_verdict2}
 use Rattle.meaning.specs.Card.{
@@ -190,8 +189,8 @@ bytes-plain s = bytes_by_lem no_card (words s) ∙ ap (bytes_on no_card) (words-
 
 -- a refusal keeps its number where it is moved
 moved-number : (s : List ℕ) (start : ℕ) (v : Verdict) → number (moved_to s start v) ≡ number v
-moved-number s start Accepted = refl
-moved-number s start (Refused k at) = refl
+moved-number s start (Ok done) = refl
+moved-number s start (Err why) = refl
 
 -- the number by the card, and that of its file
 abbrev number_by : Card → ℕ → ℕ

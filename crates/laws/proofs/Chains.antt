@@ -4,6 +4,7 @@
 --     fits, sized_yes, sized_no     the test of the sizes decides `Fits`
 --     sound, measured, job          what an accepted design, its readings and a whole job are, as records
 -- Assumes nothing.
+use Rattle.std.proofs.Common.{Ok, Err}
 use Prim.Native.Nat.{ℕ, ◌*◌, ◌^◌, ◌≤◌, ◌<◌}
 use mathlib.Core.Path.{◌≡◌, refl, sym, ap, ap₂, subst}
 use mathlib.Core.Bool.{Bool, true, false, ◌&&◌}
@@ -16,11 +17,9 @@ use lib.Dec.{leb, ltb, eqb}
 use lib.IntN.{ℤ, nat_abs}
 use Rattle.algebra.proofs.Tests.{and_left, and_right, first-before}
 use Rattle.records.specs.declared.Head.{Head}
-use Rattle.records.specs.declared.Verdict.{Verdict}
-use Rattle.records.specs.declared.Verdict.TheVariants.{Accepted, Refused}
 use Rattle.meaning.specs.Design.{objects, blocks, sized, list_length, balanced}
 use Rattle.meaning.specs.Analysis.{reading, members}
-use Rattle.meaning.specs.Refusals.{accepted, refused, test, ◌⨾◌, offender, far_reading, clean}
+use Rattle.meaning.specs.Refusals.{Verdict, accepted, refused, test, ◌⨾◌, offender, far_reading, clean}
 use Rattle.meaning.specs.Refusals.{in_restraint, standards, restraint, in_reach, reading_limit, sum_limit}
 use Rattle.meaning.specs.Calls.{given, design_verdict, judge_verdict, slices, contents, job_verdict, readings_verdict}
 use Rattle.laws.specs.Fits.{Fits}
@@ -33,8 +32,8 @@ refused_is_not k at e = let z : ◌≡◌ {A = ℕ} 0 1 = cc in absurd (omega ar
 
 -- an accepting chain: what stands before its last test accepts, and so does that
 pub opened : (a b : Verdict) → a ⨾ b ≡ accepted → (a ≡ accepted) × (b ≡ accepted)
-opened Accepted b e = (refl, e)
-opened (Refused k at) b e = refused_is_not k at e
+opened (Ok done) b e = (refl, e)
+opened (Err why) b e = refused_is_not why.number why.place e
 
 -- a test that accepts held
 pub held : (t : Bool) (k at : ℕ) → test t k at ≡ accepted → t ≡ true
@@ -63,8 +62,8 @@ refused_stays b k at e = ap (λ (a : Verdict). a ⨾ b) e
 
 -- a test that always holds may be left out
 pub accepted-last : (a : Verdict) → a ⨾ accepted ≡ a
-accepted-last Accepted = refl
-accepted-last (Refused k at) = refl
+accepted-last (Ok done) = refl
+accepted-last (Err why) = refl
 
 -- an accepting verdict gives the answer
 pub given_yes : {A : Type 0} (a : Verdict) (answer nothing : A) → a ≡ accepted → given a answer nothing ≡ answer

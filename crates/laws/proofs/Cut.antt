@@ -3,6 +3,7 @@
 --     cut_text       the first 8,192 bytes have the text of the whole
 --     bench_text_lem     so what the program prints is the text of what stands on its standard input
 -- Of two files that have the same first 8,192 bytes and go on past them each test sees the same, up to a refusal by 9 at the latest. Assumes nothing.
+use Rattle.std.proofs.Common.{Ok, Err}
 use mathlib.Core.Path.{◌≡◌, refl, sym, ap, ◌∙◌}
 use mathlib.Core.Bool.{Bool, true, false}
 use mathlib.Core.List.{List}
@@ -15,10 +16,8 @@ use lib.Dec.{eqb}
 use lib.ListN.{length, get_or, take}
 use lib.Seq.{take_all, length-take-le, get_or-take}
 use Rattle.records.specs.declared.Head.{Head}
-use Rattle.records.specs.declared.Verdict.{Verdict}
-use Rattle.records.specs.declared.Verdict.TheVariants.{Accepted, Refused}
 use Rattle.meaning.specs.Design.{blocks, sized, list_length}
-use Rattle.meaning.specs.Refusals.{accepted, refused, test, ◌⨾◌, sizes}
+use Rattle.meaning.specs.Refusals.{Verdict, accepted, refused, test, ◌⨾◌, sizes}
 use Rattle.meaning.specs.File.{big, field_verdict, head_of, fields, read_verdict}
 use Rattle.meaning.specs.Text.{refused_line, text_of, bench_text}
 use Rattle.laws.specs.Fits.{Fits}
@@ -114,8 +113,8 @@ fields_by s = refl
 
 -- a refusal by the sizes ends the chain
 sizes-end : (h : Head) (s : List ℕ) (first : Verdict) → after_sizes h s (first ⨾ refused 4 0) ≡ first ⨾ refused 4 0
-sizes-end h s Accepted = refl
-sizes-end h s (Refused k place) = refl
+sizes-end h s (Ok done) = refl
+sizes-end h s (Err why) = refl
 
 module _ (s t : List ℕ) (a : Alike 8192 s t) where
   -- the chain gives the same
@@ -150,11 +149,11 @@ pub cut_text : (s : List ℕ) → text_of (take 8192 s) ≡ text_of s
 cut_text s = by (dec_le (length s) 8192)
   where
     long : 8192 < length s → (v : Verdict) → fields s ≡ v → text_of (take 8192 s) ≡ text_of s
-    long l Accepted e = let f = filed s e in absurd (omega (arith, f.ends, ends-early (head_of s) (fits (head_of s) f.size)))
-    long l (Refused k place) e =
+    long l (Ok done) e = let f = filed s e in absurd (omega (arith, f.ends, ends-early (head_of s) (fits (head_of s) f.size)))
+    long l (Err why) e =
         let n : length (take 8192 s) ≡ 8192 = length-take-le 8192 s (omega arith) in
         let a : Alike 8192 (take 8192 s) s = record { has = omega arith; has_too = omega arith; same = λ i m. get_or-take 8192 s i 0 m } in
-        text-refused (take 8192 s) k place (fields-same (take 8192 s) s a ∙ e) ∙ sym (text-refused s k place e)
+        text-refused (take 8192 s) why.number why.place (fields-same (take 8192 s) s a ∙ e) ∙ sym (text-refused s why.number why.place e)
 
     by : Dec (length s ≤ 8192) → text_of (take 8192 s) ≡ text_of s
     by (yes l) = ap text_of (take_all 8192 s l)

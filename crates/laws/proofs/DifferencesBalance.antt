@@ -7,6 +7,7 @@
 --     zero_decides                    a design is balanced where every object meets 0 alike
 --     differences_judge               the judgement by differences is the judgement, for every head and block list
 -- Assumes nothing.
+use Rattle.std.proofs.Common.{Ok, Err}
 use mathlib.Core.Path.{◌≡◌, refl, sym, ◌∙◌, ap, subst}
 use mathlib.Core.Bool.{Bool, true, false, cond, ◌&&◌}
 use mathlib.Core.List.{List}
@@ -20,10 +21,8 @@ use Rattle.algebra.proofs.Tests.{and_left, and_right, and_both, all-at, all-each
 use Rattle.records.specs.declared.Head.{Head}
 use Rattle.records.specs.declared.Judged.{Judged}
 use Rattle.records.specs.declared.Parameters.{Parameters}
-use Rattle.records.specs.declared.Verdict.{Verdict}
-use Rattle.records.specs.declared.Verdict.TheVariants.{Accepted, Refused}
 use Rattle.meaning.specs.Design.{objects, with_fixed, plus, company, opposition, Balanced, balanced, beta, parameters_of}
-use Rattle.meaning.specs.Refusals.{◌⨾◌, test}
+use Rattle.meaning.specs.Refusals.{Verdict, ◌⨾◌, test}
 use Rattle.meaning.specs.Calls.{given, no_parameters, design_verdict, judge_verdict, judged}
 use Rattle.laws.proofs.Chains.{Sound, sound, refused_stays, given_no}
 use Rattle.laws.proofs.Counting.{company_symmetric, opposition_symmetric, balanced_from, balanced-is, is-balanced}
@@ -214,8 +213,8 @@ module _ (h : Head) (d : List ℕ) where
   differences_verdict_lem = go (design_verdict h d) refl
     where
       go : (a : Verdict) → design_verdict h d ≡ a → design_verdict h d ⨾ test (even_differences h d) 6 0 ≡ design_verdict h d ⨾ test (balanced h d) 6 0
-      go Accepted e = ap (λ (t : Bool). design_verdict h d ⨾ test t 6 0) (sym (tests_agree h d (sound h d e)))
-      go (Refused k at) e = refused_stays _ k at e ∙ sym (refused_stays _ k at e)
+      go (Ok done) e = ap (λ (t : Bool). design_verdict h d ⨾ test t 6 0) (sym (tests_agree h d (sound h d e)))
+      go (Err why) e = refused_stays _ why.number why.place e ∙ sym (refused_stays _ why.number why.place e)
 
   -- so are the parameters of a sound design
   pub differences_parameters_lem : Sound h d → differences_parameters h d ≡ parameters_of h d
@@ -226,8 +225,8 @@ module _ (h : Head) (d : List ℕ) where
   numbers : (a : Verdict) → design_verdict h d ≡ a →
       given (judge_verdict h d) (differences_parameters h d) no_parameters ≡ given (judge_verdict h d) (parameters_of h d) no_parameters
   unfolding judge_verdict
-  numbers Accepted e = ap (λ (x : Parameters). given (judge_verdict h d) x no_parameters) (differences_parameters_lem (sound h d e))
-  numbers (Refused k at) e = let r = refused_stays (test (balanced h d) 6 0) k at e in given_no _ _ _ k at r ∙ sym (given_no _ _ _ k at r)
+  numbers (Ok done) e = ap (λ (x : Parameters). given (judge_verdict h d) x no_parameters) (differences_parameters_lem (sound h d e))
+  numbers (Err why) e = let r = refused_stays (test (balanced h d) 6 0) why.number why.place e in given_no _ _ _ why.number why.place r ∙ sym (given_no _ _ _ why.number why.place r)
 
   -- a verdict with its parameters
   abbrev told : Verdict → Parameters → Judged

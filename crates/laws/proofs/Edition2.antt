@@ -7,6 +7,7 @@
 --     to-second, to-first       moved to the second edition a file is accepted, and its four fields are the file; moved back and forth it is the same
 --     first-reader              a reader of the first edition refuses a file of the second with 2 at 0
 -- Assumes nothing.
+use Rattle.std.proofs.Common.{Ok, Err}
 use mathlib.Core.Path.{◌≡◌, refl, sym, ap, ◌∙◌}
 use mathlib.Core.Bool.{Bool, true, false, cond, not, ◌||◌, false≢true}
 use mathlib.Core.List.{List, [], ◌∷◌, ◌++◌}
@@ -18,10 +19,8 @@ use lib.IntN.{ℤ}
 use lib.ListN.{length, get_or, take, drop, length-append, length-drop}
 use lib.Seq.{take_all, drop-cons}
 use Rattle.records.specs.declared.Head.{Head}
-use Rattle.records.specs.declared.Verdict.{Verdict}
-use Rattle.records.specs.declared.Verdict.TheVariants.{Accepted, Refused}
 use Rattle.meaning.specs.Design.{objects, blocks}
-use Rattle.meaning.specs.Refusals.{accepted, refused, test, ◌⨾◌}
+use Rattle.meaning.specs.Refusals.{Verdict, accepted, refused, test, ◌⨾◌}
 use Rattle.meaning.specs.Calls.{given, job_verdict, rooms}
 use Rattle.meaning.specs.File.{big, field_verdict, head_of, end_at, blocks_of, readings_of, set_of, sum_of, fields, read_verdict, solve_verdict}
 use Rattle.meaning.specs.Writing.{bytes_of, file_of}
@@ -85,13 +84,13 @@ module _ (s : List ℕ) where
 -- ---- moving
 
 pub moved_chain : (a b : Verdict) → moved_on (a ⨾ b) ≡ moved_on a ⨾ moved_on b
-moved_chain Accepted b = refl
-moved_chain (Refused k at) b = refl
+moved_chain (Ok done) b = refl
+moved_chain (Err why) b = refl
 
 -- only an accepted verdict is moved to an accepted one
 pub moved-accepted : (a : Verdict) → moved_on a ≡ accepted → a ≡ accepted
-moved-accepted Accepted e = refl
-moved-accepted (Refused k at) e = refused_is_not _ _ e
+moved-accepted (Ok done) e = refl
+moved-accepted (Err why) e = refused_is_not _ _ e
 
 -- 10 stays at 0
 pub moved-rooms : (h : Head) (words values deviations : ℕ) → moved_on (rooms h words values deviations) ≡ rooms h words values deviations
@@ -106,8 +105,8 @@ moved-rooms h words values deviations = go (leb (2 * blocks h) words) (leb (obje
 
 -- what is given under a verdict is given under the moved one
 pub given-moved : {A : Type 0} (v : Verdict) (answer nothing : A) → given (moved_on v) answer nothing ≡ given v answer nothing
-given-moved Accepted answer nothing = refl
-given-moved (Refused k at) answer nothing = refl
+given-moved (Ok done) answer nothing = refl
+given-moved (Err why) answer nothing = refl
 
 -- ---- accepted fields
 
@@ -193,10 +192,10 @@ unfolding text_of2
 text_length2 s = by (read_verdict2 s) refl
   where
     by : (v : Verdict) → read_verdict2 s ≡ v → length (text_under v (four_of s)) ≤ 65536
-    by Accepted e =
+    by (Ok done) e =
         let four = four_of s in
         omega (arith, job-length (head_of four) (blocks_of four) (readings_of four) (set_of four) (sum_of four) (file-job four (file_job2 s e).1).1)
-    by (Refused k place) e = omega (arith, refused-length k place)
+    by (Err why) e = omega (arith, refused-length why.number why.place)
 
 -- ---- optional fields
 

@@ -3,6 +3,7 @@
 --     enough        so with that room the whole text is given: as many bytes as are answered are the text
 --     counts        whatever the room, as many bytes as are answered stand in it
 -- Of an accepted job the lines are few and the denominators of its deviations short; a refusal is one line. Assumes nothing.
+use Rattle.std.proofs.Common.{Ok, Err}
 use mathlib.Core.Path.{◌≡◌, refl, sym}
 use mathlib.Core.Bool.{Bool, true, false}
 use mathlib.Core.List.{List, ◌++◌}
@@ -15,12 +16,10 @@ use lib.ListN.{length, take, drop, length-append}
 use lib.Seq.{length-take-le, take-append_seam}
 use Rattle.records.specs.declared.Head.{Head}
 use Rattle.records.specs.declared.Listed.{Listed}
-use Rattle.records.specs.declared.Verdict.{Verdict}
-use Rattle.records.specs.declared.Verdict.TheVariants.{Accepted, Refused}
 use Rattle.meaning.specs.Design.{objects, blocks, parameters_of}
 use Rattle.meaning.specs.Analysis.{vbeta, numerator_of, denominator_of, deviation_of}
 use Rattle.meaning.specs.Publishing.{published}
-use Rattle.meaning.specs.Refusals.{accepted, test}
+use Rattle.meaning.specs.Refusals.{Verdict, accepted, test}
 use Rattle.meaning.specs.Calls.{given, job_verdict, spreading_of}
 use Rattle.meaning.specs.File.{head_of, blocks_of, readings_of, set_of, sum_of, read_verdict}
 use Rattle.meaning.specs.Text.{each, value_line, dev_line, job_text, text_under, text_of, listed_answer, listed_after}
@@ -48,8 +47,8 @@ unfolding text_of
 text-length s = by (read_verdict s) refl
   where
     by : (v : Verdict) → read_verdict s ≡ v → length (text_under v s) ≤ 65536
-    by Accepted e = omega (arith, job-length (head_of s) (blocks_of s) (readings_of s) (set_of s) (sum_of s) (file-job s e).1)
-    by (Refused k place) e = omega (arith, refused-length k place)
+    by (Ok done) e = omega (arith, job-length (head_of s) (blocks_of s) (readings_of s) (set_of s) (sum_of s) (file-job s e).1)
+    by (Err why) e = omega (arith, refused-length why.number why.place)
 
 module _ (s out : List ℕ) {r : Listed} {after : List ℕ} (says : r ≡ listed_answer s (length out)) (leaves : after ≡ listed_after s out) where
   -- with that room, as many bytes as are answered are the text

@@ -1,4 +1,5 @@
 -- A file whose four fields are accepted holds a job: its slices have their lengths, so its verdict is a direct call's, moved to its place. Assumes nothing.
+use Rattle.std.proofs.Common.{Ok, Err}
 use mathlib.Core.Path.{◌≡◌, refl, sym, ◌∙◌, ap}
 use mathlib.Core.Bool.{Bool, true, false}
 use mathlib.Core.List.{List}
@@ -8,10 +9,8 @@ use borrow.Author.Tests.{eqb-true, eq-eqb}
 use lib.Dec.{eqb, leb}
 use lib.ListN.{length}
 use Rattle.records.specs.declared.Head.{Head}
-use Rattle.records.specs.declared.Verdict.{Verdict}
-use Rattle.records.specs.declared.Verdict.TheVariants.{Accepted, Refused}
 use Rattle.meaning.specs.Design.{objects, blocks, sized, list_length}
-use Rattle.meaning.specs.Refusals.{accepted, test, ◌⨾◌, sizes}
+use Rattle.meaning.specs.Refusals.{Verdict, accepted, test, ◌⨾◌, sizes}
 use Rattle.meaning.specs.Calls.{slices, contents, job_verdict, rooms, analyse_verdict}
 use Rattle.meaning.specs.File.{
   numbers_at,
@@ -79,13 +78,13 @@ file-contents s e = goes_on _ (file-slices s e)
 
 -- moving goes test by test
 pub placed_chain : (s : List ℕ) (a b : Verdict) → placed s (a ⨾ b) ≡ placed s a ⨾ placed s b
-placed_chain s Accepted b = refl
-placed_chain s (Refused k at) b = refl
+placed_chain s (Ok done) b = refl
+placed_chain s (Err why) b = refl
 
 -- only an accepted verdict is moved to an accepted one
 pub placed-accepted : (s : List ℕ) (a : Verdict) → placed s a ≡ accepted → a ≡ accepted
-placed-accepted s Accepted e = refl
-placed-accepted s (Refused k at) e = refused_is_not _ _ e
+placed-accepted s (Ok done) e = refl
+placed-accepted s (Err why) e = refused_is_not _ _ e
 
 -- 10 stays at 0
 pub placed-rooms : (s : List ℕ) (h : Head) (words values deviations : ℕ) → placed s (rooms h words values deviations) ≡ rooms h words values deviations

@@ -1,5 +1,6 @@
 -- How long the text of a number is at most, each line of the listing (its word, its numbers, a newline), and lines one after the other. Only a
 -- deviation's line needs bounds of its numbers to be short. Assumes nothing.
+use Rattle.std.proofs.Common.{Some, Option, None}
 use mathlib.Core.Bool.{Bool, true, false, cond}
 use mathlib.Core.Path.{◌≡◌, refl}
 use mathlib.Core.List.{List, [], ◌∷◌, ◌++◌}
@@ -12,7 +13,6 @@ use lib.ListN.{length, length-append}
 use borrow.Author.Tests.{ltb-false}
 use Rattle.records.specs.declared.Parameters.{Parameters}
 use Rattle.records.specs.declared.Spread.{Spread}
-use Rattle.records.specs.declared.Spread.TheVariants.{Of, None}
 use Rattle.records.specs.declared.Spreading.{Spreading}
 use Rattle.records.specs.declared.Wide.{Wide}
 use Rattle.meaning.specs.Wide.{value}
@@ -78,9 +78,9 @@ pub dev_length : (m n k : ℕ) (a : ℤ) (d : ℕ) → k < 10 ^ suc m → d < 10
 unfolding ascii
 dev_length m n k a d block denominator = simp length-append (omega (arith, spaced-length m k block, signed-most a, spaced-length n d denominator))
 
-last-length : (s : Spread) (k : ℕ) → length (last_word s k) ≤ 21
+last-length : (s : Option Spread) (k : ℕ) → length (last_word s k) ≤ 21
 unfolding ascii
-last-length (Of x f) k = spaced-most k
+last-length (Some spread) k = spaced-most k
 last-length None k = omega arith
 
 -- the spread

@@ -23,7 +23,6 @@ use Rattle.algebra.proofs.Solver.{◌⊕◌, ◌⊗◌, ◌⊝◌, #, ◌≐◌,
 use Rattle.algebra.proofs.Sums.{sum_cong, sum_ext, sum-zero, sum_sub, sum-scale, sum_scale_r, pos_sum}
 use Rattle.algebra.proofs.Tests.{and_left, and_right, all-at, first_from_none}
 use Rattle.records.specs.declared.Head.{Head}
-use Rattle.records.specs.declared.Verdict.{Verdict}
 use Rattle.meaning.specs.Design.{objects, blocks, sized, list_length, occ, left, right, balanced, beta}
 use Rattle.meaning.specs.Analysis.{
   sq,
@@ -44,7 +43,7 @@ use Rattle.meaning.specs.Analysis.{
   spread_hundredths_of,
   freedom,
 }
-use Rattle.meaning.specs.Refusals.{◌⨾◌, accepted, clean, in_balance, restraint, far_reading, in_reach, reading_limit}
+use Rattle.meaning.specs.Refusals.{Verdict, ◌⨾◌, accepted, clean, in_balance, restraint, far_reading, in_reach, reading_limit}
 use Rattle.meaning.specs.Calls.{slices, contents, job_verdict}
 use Rattle.meaning.specs.Practice.{step, state, noise, truth, truth_limit, width_limit, near, practised, practice_reading, listed, practice_readings, true_sum}
 use Rattle.laws.proofs.Chains.{opened, held, accepts, goes_on, accepted-last, test_yes, fits, sized_yes, Sound}

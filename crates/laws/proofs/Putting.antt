@@ -1,4 +1,5 @@
 -- A file put into lent room under a verdict: what is answered, and the room after. Assumes nothing.
+use Rattle.std.proofs.Common.{Ok, Err}
 use Prim.Native.Nat.{ℕ, ◌≤◌, ◌<◌}
 use mathlib.Core.Path.{◌≡◌, refl, sym}
 use mathlib.Core.Bool.{true, false, false≢true}
@@ -8,9 +9,7 @@ use lib.ListN.{length, drop}
 use Rattle.algebra.specs.Buffers.{Wrote}
 use Rattle.algebra.proofs.Writing.{counts, in_front}
 use Rattle.records.specs.declared.JobWritten.{JobWritten}
-use Rattle.records.specs.declared.Verdict.{Verdict}
-use Rattle.records.specs.declared.Verdict.TheVariants.{Accepted, Refused}
-use Rattle.meaning.specs.Refusals.{accepted}
+use Rattle.meaning.specs.Refusals.{Verdict, accepted}
 use Rattle.meaning.specs.Calls.{given}
 use Rattle.meaning.specs.Edition2.{put_answer, put_after}
 
@@ -21,8 +20,8 @@ module _ (verdict : Verdict) (file out : List ℕ) where
 
   -- refused: no byte is written
   pub unput : (v : Verdict) → v ≡ verdict → given v false true ≡ true → Put (record { verdict = v; length = 0 }) out
-  unput Accepted e r = absurd (false≢true r)
-  unput (Refused k at) e r = rw (sym e) (refl, refl)
+  unput (Ok done) e r = absurd (false≢true r)
+  unput (Err why) e r = rw (sym e) (refl, refl)
 
   -- accepted: the file stands in front, as many bytes as were put
   pub put : {after : List ℕ} {r : ℕ} (v : Verdict) → v ≡ accepted → verdict ≡ accepted → Wrote out 0 file after r → length file ≤ length out →

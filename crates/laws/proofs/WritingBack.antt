@@ -13,9 +13,8 @@ use lib.IntN.{ℤ, nat_abs}
 use lib.ListN.{length, take, drop}
 use lib.Seq.{take_at, drop_at, drop-drop}
 use Rattle.records.specs.declared.Head.{Head}
-use Rattle.records.specs.declared.Verdict.{Verdict}
 use Rattle.meaning.specs.Design.{objects, blocks, sized, list_length}
-use Rattle.meaning.specs.Refusals.{accepted, test, ◌⨾◌, sizes}
+use Rattle.meaning.specs.Refusals.{Verdict, accepted, test, ◌⨾◌, sizes}
 use Rattle.meaning.specs.Calls.{job_verdict}
 use Rattle.meaning.specs.File.{big, twos, numbers_at, field_verdict, head_of, second_at, blocks_of, set_of, sum_of, readings_of, fields}
 use Rattle.meaning.specs.Writing.{bytes_of, wrapped, sizes_body, restraint_body, readings_body, file_of, file_length, ReadsAs}

@@ -3,11 +3,10 @@
 use Rattle.std.specs.Prelude.{ℕ, suc, ◌+◌, ◌-◌, ◌*◌, ◌%◌, ◌<◌, Bool, true, cond, ◌&&◌, List, [], ◌∷◌, ◌≡◌, take, drop, eqb}
 use Rattle.algebra.specs.Ranges.{sum_ℕ, all}
 use Rattle.records.specs.declared.Head.{Head}
-use Rattle.records.specs.declared.Verdict.{Verdict}
 use Rattle.records.specs.declared.Parameters.{Parameters}
 use Rattle.records.specs.declared.Judged.{Judged}
 use Rattle.meaning.specs.Design.{objects, blocks, with_fixed, occ, plus}
-use Rattle.meaning.specs.Refusals.{◌⨾◌, test}
+use Rattle.meaning.specs.Refusals.{Verdict, ◌⨾◌, test}
 use Rattle.meaning.specs.Calls.{given, no_parameters, design_verdict}
 
 -- the bytes of the left of initial block q

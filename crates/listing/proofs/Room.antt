@@ -8,8 +8,8 @@ use lib.ListN.{length}
 use Rattle.algebra.specs.Buffers.{Wrote}
 use Rattle.algebra.proofs.Writing.{measured, longer, in_front}
 use Rattle.records.specs.declared.Listed.{Listed}
-use Rattle.records.specs.declared.Verdict.TheVariants.{Accepted, Refused}
 use Rattle.meaning.specs.Text.{text_answer, text_after}
+use Rattle.meaning.specs.Refusals.{refused, accepted}
 
 -- the answer and the room after are those of writing the text
 abbrev pub Rendered : List ℕ → List ℕ → Listed → List ℕ → Type 0
@@ -17,12 +17,12 @@ Rendered text out r after = (r ≡ text_answer text (length out)) × (after ≡ 
 
 module _ (text out : List ℕ) (small : length out < 18446744073709551615) {one one' : List ℕ} {n : ℕ} (dry : Wrote one 0 text one' n) where
   -- too long: refused, and the room is as it was
-  pub no_room : length out < n → Rendered text out (record { verdict = Refused 10 0; length = 0 }) out
+  pub no_room : length out < n → Rendered text out (record { verdict = refused 10 0; length = 0 }) out
   no_room l = rw (lt-leb (length text) (length out) (longer (length out) dry small l)) (refl, refl)
 
   -- with room: its length, and the text in front
-  pub in_room : {after : List ℕ} {r : ℕ} → n ≤ length out → Wrote out 0 text after r → Rendered text out (record { verdict = Accepted; length = n }) after
+  pub in_room : {after : List ℕ} {r : ℕ} → n ≤ length out → Wrote out 0 text after r → Rendered text out (record { verdict = accepted; length = n }) after
   in_room l w =
       let counted : n ≡ length text = measured dry (omega arith) in
       let fits : length text ≤ length out = omega arith in
-      rw (le-leb (length text) (length out) fits) ((λ j. record { verdict = Accepted; length = counted j }), in_front w fits small)
+      rw (le-leb (length text) (length out) fits) ((λ j. record { verdict = accepted; length = counted j }), in_front w fits small)

@@ -1,10 +1,8 @@
 -- The certificate of what was worked out, from the numbers in hand, for any numbers. Assumes nothing.
-use Rattle.std.specs.Prelude.{ℕ, List, ◌++◌, ℤ, pos, ◌*ℤ◌, length, get_or}
+use Rattle.std.specs.Prelude.{Ok, Err, ℕ, List, ◌++◌, ℤ, pos, ◌*ℤ◌, length, get_or}
 use Rattle.records.specs.declared.Parameters.{Parameters}
 use Rattle.records.specs.declared.Solved.{Solved}
 use Rattle.records.specs.declared.Spreading.{Spreading}
-use Rattle.records.specs.declared.Verdict.{Verdict}
-use Rattle.records.specs.declared.Verdict.TheVariants.{Accepted, Refused}
 use Rattle.meaning.specs.Analysis.{member}
 use Rattle.meaning.specs.Wide.{value}
 use Rattle.meaning.specs.Text.{digits, each, refused_line}
@@ -21,6 +19,7 @@ use Rattle.meaning.specs.Certificate.{
 }
 use Rattle.arithmetic.specs.Uncertainties.{uncertainty_in}
 use Rattle.analysis.specs.Worked.{factor_in}
+use Rattle.meaning.specs.Refusals.{Verdict}
 
 -- what stands above the weights
 abbrev pub heading_text : Parameters → List ℕ
@@ -57,8 +56,8 @@ certified_lines s names hundredths solved set M = heading_text solved.parameters
 
 -- the text by the verdict: those lines, or the refusal alone
 abbrev pub certified_under : Verdict → List ℕ → ℕ → List ℤ → Solved → ℕ → ℤ → List ℕ
-certified_under Accepted s names hundredths solved set M = certified_lines s names hundredths solved set M
-certified_under (Refused k place) s names hundredths solved set M = refused_line k place
+certified_under (Ok done) s names hundredths solved set M = certified_lines s names hundredths solved set M
+certified_under (Err why) s names hundredths solved set M = refused_line why.number why.place
 
 unfoldable pub certified_text : List ℕ → ℕ → List ℤ → Solved → ℕ → ℤ → List ℕ
 certified_text s names hundredths solved set M = certified_under solved.verdict s names hundredths solved set M

@@ -1,9 +1,8 @@
 -- The text of what was worked out, from the numbers in hand, for any numbers. Assumes nothing.
-use Rattle.std.specs.Prelude.{ℕ, List, ◌++◌, ℤ, pos, take, length, get_or}
+use Rattle.std.specs.Prelude.{Ok, Err, ℕ, List, ◌++◌, ℤ, pos, take, length, get_or}
 use Rattle.records.specs.declared.Solved.{Solved}
-use Rattle.records.specs.declared.Verdict.{Verdict}
-use Rattle.records.specs.declared.Verdict.TheVariants.{Accepted, Refused}
 use Rattle.meaning.specs.Text.{each, design_line, value_line, dev_line, spread_line, refused_line}
+use Rattle.meaning.specs.Refusals.{Verdict}
 
 -- the line of object i, from the value numerators, their denominator and the published hundredths
 abbrev pub value_at : List ℤ → List ℤ → ℕ → ℕ → List ℕ
@@ -30,8 +29,8 @@ job_lines solved values hundredths deviations = design_line solved.parameters
 
 -- the text by the verdict: those lines, or the refusal alone
 abbrev pub sheet_under : Verdict → Solved → List ℤ → List ℤ → List ℤ → List ℕ
-sheet_under Accepted solved values hundredths deviations = job_lines solved values hundredths deviations
-sheet_under (Refused k place) solved values hundredths deviations = refused_line k place
+sheet_under (Ok done) solved values hundredths deviations = job_lines solved values hundredths deviations
+sheet_under (Err why) solved values hundredths deviations = refused_line why.number why.place
 
 unfoldable pub sheet_text : Solved → List ℤ → List ℤ → List ℤ → List ℕ
 sheet_text solved values hundredths deviations = sheet_under solved.verdict solved values hundredths deviations

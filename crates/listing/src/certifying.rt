@@ -12,7 +12,7 @@ use crate::columns::{
 use crate::lines::put_refused;
 use analysis::uncertainty::uncertainty_in;
 use printing::{put_byte, put_number, put_text};
-use records::{Listed, Parameters, Solved, Spreading, Uncertainty, Verdict};
+use records::{Listed, Parameters, Refusal, Solved, Spreading, Uncertainty};
 use words::holds;
 
 // What stands above the weights: the title, the design, the names of the columns.
@@ -60,7 +60,7 @@ fn put_weight(
     object: usize,
     held: u64,
     hundredths: i64,
-    uncertainty: Uncertainty,
+    uncertainty: Option<Uncertainty>,
 ) -> usize
     ensures { Wrote out.old at (weight_line object (name_from bytes.now names object) held hundredths uncertainty)
         out.new result }
@@ -88,13 +88,10 @@ fn put_weights(
 {
     let spreading = solved.spreading;
     let mut place = at;
-    let mut i: usize = 0;
-    while i < hundredths.len() {
-        let published = hundredths[i];
+    for (i, published) in hundredths.iter().enumerate() {
         let held = holds(set, i);
         let uncertainty = uncertainty_in(spreading, solved.denominator, set, i);
-        place = put_weight(out, place, bytes, names, i, held, published, uncertainty);
-        i += 1;
+        place = put_weight(out, place, bytes, names, i, held, *published, uncertainty);
     }
     place
 }
@@ -125,13 +122,12 @@ fn put_sums(out: &mut [u8], at: usize, sum: i64) -> usize
 fn put_spreading(out: &mut [u8], at: usize, spreading: Spreading) -> usize
     ensures { Wrote out.old at (spread_lines spreading) out.new result }
 {
-    let spread = spreading.spread;
     let words = put_text(
         out,
         at,
         b"spread                                             ",
     );
-    let figure = put_spread(out, words, spread, spreading.hundredths);
+    let figure = put_spread(out, words, spreading.spread, spreading.hundredths);
     let spread_end = put_byte(out, figure, 10);
     let freedom = put_text(
         out,
@@ -157,12 +153,10 @@ fn put_certified(
     ensures { Wrote out.old at (certified_lines bytes.now names hundredths.now solved set sum)
         out.new result }
 {
-    let parameters = solved.parameters;
-    let spreading = solved.spreading;
-    let heading_end = put_heading(out, at, parameters);
+    let heading_end = put_heading(out, at, solved.parameters);
     let weights_end = put_weights(out, heading_end, bytes, names, hundredths, solved, set);
     let sums_end = put_sums(out, weights_end, sum);
-    let spread_end = put_spreading(out, sums_end, spreading);
+    let spread_end = put_spreading(out, sums_end, solved.spreading);
     put_text(
         out,
         spread_end,
@@ -185,10 +179,9 @@ fn put_certificate(
     ensures { Wrote out.old at (certified_text bytes.now names hundredths.now solved set sum)
         out.new result }
 {
-    let verdict = solved.verdict;
-    match verdict {
-        Verdict::Accepted => put_certified(out, at, bytes, names, hundredths, solved, set, sum),
-        Verdict::Refused(number, place) => put_refused(out, at, number, place),
+    match solved.verdict {
+        Ok(()) => put_certified(out, at, bytes, names, hundredths, solved, set, sum),
+        Err(Refusal { number, place }) => put_refused(out, at, number, place),
     }
 }
 
@@ -212,13 +205,16 @@ pub(crate) fn certify(
     let length = put_certificate(&mut one, 0, bytes, names, hundredths, solved, set, sum);
     if out.len() < length {
         return Listed {
-            verdict: Verdict::Refused(10, 0),
+            verdict: Err(Refusal {
+                number: 10,
+                place: 0,
+            }),
             length: 0,
         };
     }
     put_certificate(out, 0, bytes, names, hundredths, solved, set, sum);
     Listed {
-        verdict: Verdict::Accepted,
+        verdict: Ok(()),
         length,
     }
 }

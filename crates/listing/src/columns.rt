@@ -8,13 +8,6 @@ ghost use Rattle.meaning.specs.Certificate.{at_left, at_right, two_decimals, cou
 use printing::{put_counts, put_decimals, put_digits, put_name, put_spaces, put_text};
 use records::{Spread, Uncertainty};
 
-// What a text leaves of a column.
-fn left_over(width: usize, length: usize) -> usize
-    ensures { result ≡ width - length }
-{
-    if length <= width { width - length } else { 0 }
-}
-
 // The number of a weight.
 pub(crate) fn put_object(out: &mut [u8], at: usize, object: usize) -> usize
     ensures { Wrote out.old at (at_left 8 (digits 20 object)) out.new result }
@@ -22,7 +15,7 @@ pub(crate) fn put_object(out: &mut [u8], at: usize, object: usize) -> usize
     let mut one = [0u8; 1];
     let length = put_digits(&mut one, 0, object as u64);
     let end = put_digits(out, at, object as u64);
-    put_spaces(out, end, left_over(8, length))
+    put_spaces(out, end, 8_usize.saturating_sub(length))
 }
 
 // The name of a weight, where the file has names.
@@ -38,7 +31,7 @@ pub(crate) fn put_named(
     let mut one = [0u8; 1];
     let length = put_name_of(&mut one, 0, bytes, names, object);
     let end = put_name_of(out, at, bytes, names, object);
-    put_spaces(out, end, left_over(33, length))
+    put_spaces(out, end, 33_usize.saturating_sub(length))
 }
 
 // The name by itself.
@@ -57,14 +50,9 @@ fn put_name_of(out: &mut [u8], at: usize, bytes: &[u8], names: usize, object: us
 fn name_start(bytes: &[u8], names: usize, object: usize) -> usize
     ensures { (result ≤ length bytes.now) × (drop result bytes.now ≡ drop (names + 8 * object) bytes.now) }
 {
-    let all = bytes.len();
-    if all <= names {
-        return all;
-    }
-    if (all - names) / 8 < object {
-        return all;
-    }
-    names + 8 * object
+    names
+        .saturating_add(object.saturating_mul(8))
+        .min(bytes.len())
 }
 
 // Where they end.
@@ -73,8 +61,7 @@ fn name_end(bytes: &[u8], start: usize) -> usize
     ensures { (start ≤ result) × (result ≤ length bytes.now)
         × (take (result - start) (drop start bytes.now) ≡ take 8 (drop start bytes.now)) }
 {
-    let all = bytes.len();
-    if all - start < 8 { all } else { start + 8 }
+    start.saturating_add(8).min(bytes.len())
 }
 
 // Whether a weight is a standard.
@@ -94,7 +81,7 @@ pub(crate) fn put_value(out: &mut [u8], at: usize, hundredths: i64) -> usize
 {
     let mut one = [0u8; 1];
     let length = put_counts(&mut one, 0, hundredths);
-    let start = put_spaces(out, at, left_over(22, length));
+    let start = put_spaces(out, at, 22_usize.saturating_sub(length));
     put_counts(out, start, hundredths)
 }
 
@@ -104,27 +91,32 @@ fn put_size(out: &mut [u8], at: usize, hundredths: u64) -> usize
 {
     let mut one = [0u8; 1];
     let length = put_decimals(&mut one, 0, hundredths);
-    let start = put_spaces(out, at, left_over(22, length));
+    let start = put_spaces(out, at, 22_usize.saturating_sub(length));
     put_decimals(out, start, hundredths)
 }
 
 // A standard uncertainty, or none.
-pub(crate) fn put_uncertainty(out: &mut [u8], at: usize, uncertainty: Uncertainty) -> usize
+pub(crate) fn put_uncertainty(out: &mut [u8], at: usize, uncertainty: Option<Uncertainty>) -> usize
     ensures { Wrote out.old at (at_right 22 (uncertainty_text uncertainty)) out.new result }
 {
     match uncertainty {
-        Uncertainty::Stated(hundredths, _) => put_size(out, at, hundredths),
-        Uncertainty::Unstated => put_text(out, at, b"                  none"),
+        Some(Uncertainty { hundredths, .. }) => put_size(out, at, hundredths),
+        None => put_text(out, at, b"                  none"),
     }
 }
 
 // A spread, or none.
-pub(crate) fn put_spread(out: &mut [u8], at: usize, spread: Spread, hundredths: u64) -> usize
+pub(crate) fn put_spread(
+    out: &mut [u8],
+    at: usize,
+    spread: Option<Spread>,
+    hundredths: u64,
+) -> usize
     ensures { Wrote out.old at (at_right 22 (spread_text spread hundredths)) out.new result }
 {
     match spread {
-        Spread::Of(_, _) => put_size(out, at, hundredths),
-        Spread::None => put_text(out, at, b"                  none"),
+        Some(_) => put_size(out, at, hundredths),
+        None => put_text(out, at, b"                  none"),
     }
 }
 
@@ -134,6 +126,6 @@ pub(crate) fn put_count(out: &mut [u8], at: usize, n: u64) -> usize
 {
     let mut one = [0u8; 1];
     let length = put_digits(&mut one, 0, n);
-    let start = put_spaces(out, at, left_over(22, length));
+    let start = put_spaces(out, at, 22_usize.saturating_sub(length));
     put_digits(out, start, n)
 }

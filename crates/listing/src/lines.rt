@@ -43,12 +43,12 @@ pub(crate) fn put_deviation(
 }
 
 // The hundredths of a spread, or none. It goes by the enum: a true spread may have 0 hundredths.
-fn put_last(out: &mut [u8], at: usize, spread: Spread, hundredths: u64) -> usize
+fn put_last(out: &mut [u8], at: usize, spread: Option<Spread>, hundredths: u64) -> usize
     ensures { Wrote out.old at (last_word spread hundredths) out.new result }
 {
     match spread {
-        Spread::Of(_, _) => put_number(out, at, hundredths),
-        Spread::None => put_text(out, at, b" none"),
+        Some(_) => put_number(out, at, hundredths),
+        None => put_text(out, at, b" none"),
     }
 }
 
@@ -61,8 +61,7 @@ pub(crate) fn put_spread(out: &mut [u8], at: usize, spreading: Spreading) -> usi
     let q_end = put_wide(out, word_end, q);
     let vbeta_end = put_number(out, q_end, spreading.vbeta);
     let freedom_end = put_number(out, vbeta_end, spreading.freedom);
-    let spread = spreading.spread;
-    let last_end = put_last(out, freedom_end, spread, spreading.hundredths);
+    let last_end = put_last(out, freedom_end, spreading.spread, spreading.hundredths);
     put_byte(out, last_end, 10)
 }
 

@@ -4,7 +4,7 @@ ghost use Rattle.algebra.specs.Buffers.{Wrote};
 ghost use Rattle.meaning.specs.Text.{text_answer, text_after};
 ghost use Rattle.listing.specs.Sheet.{value_lines, deviation_lines, job_lines, sheet_text};
 
-use records::{Listed, Solved, Verdict};
+use records::{Listed, Refusal, Solved};
 
 // A line for each value: its numerator is in one slice, its published hundredths in another.
 fn put_values(
@@ -19,12 +19,8 @@ fn put_values(
         (value_lines numerators.now hundredths.now denominator (length numerators.now)) out.new result }
 {
     let mut place = at;
-    let mut i: usize = 0;
-    while i < numerators.len() {
-        let numerator = numerators[i];
-        let published = hundredths[i];
-        place = crate::lines::put_value(out, place, i, numerator, denominator, published);
-        i += 1;
+    for (i, (numerator, published)) in numerators.iter().zip(hundredths).enumerate() {
+        place = crate::lines::put_value(out, place, i, *numerator, denominator, *published);
     }
     place
 }
@@ -35,11 +31,8 @@ fn put_deviations(out: &mut [u8], at: usize, numerators: &[i64], denominator: u6
         (deviation_lines numerators.now denominator (length numerators.now)) out.new result }
 {
     let mut place = at;
-    let mut k: usize = 0;
-    while k < numerators.len() {
-        let numerator = numerators[k];
-        place = crate::lines::put_deviation(out, place, k, numerator, denominator);
-        k += 1;
+    for (k, numerator) in numerators.iter().enumerate() {
+        place = crate::lines::put_deviation(out, place, k, *numerator, denominator);
     }
     place
 }
@@ -57,12 +50,10 @@ fn put_job(
     ensures { Wrote out.old at (job_lines solved values.now hundredths.now
         deviations.now) out.new result }
 {
-    let parameters = solved.parameters;
-    let spreading = solved.spreading;
-    let after_design = crate::lines::put_design(out, at, parameters);
+    let after_design = crate::lines::put_design(out, at, solved.parameters);
     let after_values = put_values(out, after_design, values, hundredths, solved.denominator);
-    let after_deviations = put_deviations(out, after_values, deviations, spreading.vbeta);
-    crate::lines::put_spread(out, after_deviations, spreading)
+    let after_deviations = put_deviations(out, after_values, deviations, solved.spreading.vbeta);
+    crate::lines::put_spread(out, after_deviations, solved.spreading)
 }
 
 // The listing, or the line of the refusal.
@@ -78,10 +69,9 @@ fn put_listing(
     ensures { Wrote out.old at
         (sheet_text solved values.now hundredths.now deviations.now) out.new result }
 {
-    let verdict = solved.verdict;
-    match verdict {
-        Verdict::Accepted => put_job(out, at, solved, values, hundredths, deviations),
-        Verdict::Refused(number, place) => crate::lines::put_refused(out, at, number, place),
+    match solved.verdict {
+        Ok(()) => put_job(out, at, solved, values, hundredths, deviations),
+        Err(Refusal { number, place }) => crate::lines::put_refused(out, at, number, place),
     }
 }
 
@@ -104,13 +94,16 @@ pub(crate) fn render(
     let length = put_listing(&mut one, 0, solved, values, hundredths, deviations);
     if out.len() < length {
         return Listed {
-            verdict: Verdict::Refused(10, 0),
+            verdict: Err(Refusal {
+                number: 10,
+                place: 0,
+            }),
             length: 0,
         };
     }
     put_listing(out, 0, solved, values, hundredths, deviations);
     Listed {
-        verdict: Verdict::Accepted,
+        verdict: Ok(()),
         length,
     }
 }

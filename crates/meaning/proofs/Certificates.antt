@@ -1,5 +1,6 @@
 -- The standard uncertainty and the certificate, rows of a table under one theorem: examples A and E, names with every kind of byte, a refusal, and
 -- uncertainties at their boundaries. The figures were worked out apart from these definitions. Assumes nothing.
+use Rattle.std.proofs.Common.{Some, Option, None}
 use Prim.Native.Nat.{ℕ}
 use mathlib.Core.Bool.{true}
 use mathlib.Core.List.{List, [], ◌∷◌, ◌++◌, replicate}
@@ -8,7 +9,6 @@ use lib.IntN.{pos, negsuc}
 use lib.ListN.{set}
 use Rattle.algebra.specs.Ranges.{sum, sum_ℕ, first_from}
 use Rattle.records.specs.declared.Uncertainty.{Uncertainty}
-use Rattle.records.specs.declared.Uncertainty.TheVariants.{Stated, Unstated}
 use Rattle.meaning.specs.Design.{field_prime, sized, occ, digit_sum, plus, left, right, company, opposition, balanced, beta}
 use Rattle.meaning.specs.Analysis.{
   total,
@@ -48,9 +48,9 @@ use Rattle.meaning.proofs.Rows.{Row, holding, refuses, every}
 use Rattle.meaning.proofs.Examples.{file_a, file_e}
 
 -- a standard uncertainty as a list: its hundredths, or nothing
-abbrev stated : Uncertainty → List ℕ
-stated (Stated u x) = u ∷ []
-stated Unstated = []
+abbrev stated : Option Uncertainty → List ℕ
+stated (Some u) = u.hundredths ∷ []
+stated None = []
 
 -- example A in the second edition, with the names `brass-1`, `#2`, ` a\b~`, eight bytes of which one is printed as it is, and one of spaces alone
 abbrev named_a : List ℕ

@@ -8,12 +8,11 @@ use lib.IntN.{ℤ, pos}
 use lib.Ieee.{Float, nan, inf, fin}
 use Rattle.algebra.specs.Ranges.{sum, all, eq_z}
 use Rattle.records.specs.declared.Head.{Head}
-use Rattle.records.specs.declared.Verdict.{Verdict}
 use Rattle.records.specs.declared.Parameters.{Parameters}
 use Rattle.meaning.specs.Design.{objects, parameters_of}
 use Rattle.meaning.specs.Analysis.{sq, total, members, restrained, numerator, denominator, q, freedom, spread_hundredths}
 use Rattle.meaning.specs.Publishing.{nearest_hundredths}
-use Rattle.meaning.specs.Refusals.{number, place}
+use Rattle.meaning.specs.Refusals.{Verdict, number, place}
 use Rattle.meaning.specs.Calls.{judge_verdict}
 use Rattle.meaning.specs.File.{head_of, blocks_of, readings_of}
 use Rattle.meaning.specs.Text.{text_of}

@@ -1,5 +1,7 @@
 -- Texts of sheets, rows of a table under one theorem: example A's listing, what makes a line unreadable, and numbers at the ends of their ranges.
 -- The figures were worked out apart from these definitions. Assumes nothing.
+use Rattle.records.specs.declared.SheetSpread.{SheetSpread}
+use Rattle.std.proofs.Common.{Option, Some, None, is_none, unwrap_or}
 use Prim.Native.Nat.{ℕ, ◌+◌, ◌*◌}
 use mathlib.Core.Bool.{Bool, true, false, cond}
 use mathlib.Core.List.{List, [], ◌∷◌, ◌++◌}
@@ -37,8 +39,12 @@ use Rattle.meaning.proofs.Rows.{Row, holding, every}
 abbrev flag : Bool → ℕ
 flag b = cond b 1 0
 
+abbrev of_spread : Option SheetSpread → List ℕ
+of_spread None = 0 ∷ 0 ∷ 0 ∷ 0 ∷ []
+of_spread (Some q) = 1 ∷ flag (is_none q.hundredths) ∷ q.freedom ∷ unwrap_or q.hundredths 0 ∷ []
+
 abbrev reads : List ℕ → List ℕ → Row
-reads s = let r = sheet_of s in holding (r.line ∷ r.count ∷ flag r.spread.read ∷ flag r.spread.none ∷ r.spread.freedom ∷ r.spread.hundredths ∷ [])
+reads s = let r = sheet_of s in holding (unwrap_or r.line 0 ∷ r.count ∷ of_spread r.spread)
 
 -- the size of each claim, twice, and one more where it is below 0
 abbrev folded : List ℤ → List ℕ

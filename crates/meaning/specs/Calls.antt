@@ -1,11 +1,9 @@
 -- What each direct call answers, on every input, and what it leaves in each lent buffer. Assumes nothing.
-use Rattle.std.specs.Prelude.{ℕ, ◌+◌, ◌*◌, ◌/◌, ◌%◌, ◌^◌, cond, take, drop, length, ℤ, pos, nat_abs, eqb}
+use Rattle.std.specs.Prelude.{Ok, Err, ℕ, ◌+◌, ◌*◌, ◌/◌, ◌%◌, ◌^◌, cond, take, drop, length, ℤ, pos, nat_abs, eqb}
 use mathlib.Core.List.{List, [], ◌∷◌, ◌++◌, replicate}
 use Rattle.algebra.specs.Buffers.{over}
 use Rattle.records.specs.declared.Head.{Head}
 use Rattle.records.specs.declared.Parameters.{Parameters}
-use Rattle.records.specs.declared.Verdict.{Verdict}
-use Rattle.records.specs.declared.Verdict.TheVariants.{Accepted, Refused}
 use Rattle.records.specs.declared.Spreading.{Spreading}
 use Rattle.records.specs.declared.Judged.{Judged}
 use Rattle.records.specs.declared.ObjectTotal.{ObjectTotal}
@@ -29,12 +27,12 @@ use Rattle.meaning.specs.Analysis.{
 }
 use Rattle.meaning.specs.Wide.{wide, wide_zero}
 use Rattle.meaning.specs.Publishing.{published, value_of, no_value, no_spread, spread_of}
-use Rattle.meaning.specs.Refusals.{◌⨾◌, sizes, length_is, clean, exists, in_balance, restraint, in_reach, room}
+use Rattle.meaning.specs.Refusals.{Verdict, ◌⨾◌, sizes, length_is, clean, exists, in_balance, restraint, in_reach, room}
 
 -- what an accepting call gives, and what a refusing one does
 abbrev pub given : {A : Type 0} → Verdict → A → A → A
-given Accepted answer nothing = answer
-given (Refused k at) answer nothing = nothing
+given (Ok done) answer nothing = answer
+given (Err why) answer nothing = nothing
 
 -- a lent buffer after a call: its first c entries written, or, on a refusal, as it was
 abbrev pub written : {A : Type 0} → Verdict → ℕ → (ℕ → A) → List A → List A

@@ -1,15 +1,12 @@
 -- A card: a job as a text that a person types. Its words, what each of them is to be, the file that they make, and what is refused at which word. Assumes
 -- nothing.
-use Rattle.std.specs.Prelude.{ℕ, zero, suc, ◌+◌, ◌-◌, ◌*◌, ◌/◌, ◌%◌, ◌^◌, Bool, true, false, cond, not, ◌&&◌, ◌||◌, List, [], ◌∷◌, ◌++◌, get_or, take, drop, length, ℤ, pos, negsuc, eqb, ltb, leb}
+use Rattle.std.specs.Prelude.{unwrap_or, is_some, Some, Option, Ok, Err, ℕ, zero, suc, ◌+◌, ◌-◌, ◌*◌, ◌/◌, ◌%◌, ◌^◌, Bool, true, false, cond, not, ◌&&◌, ◌||◌, List, [], ◌∷◌, ◌++◌, get_or, take, drop, length, ℤ, pos, negsuc, eqb, ltb, leb}
 use Rattle.records.specs.declared.Head.{Head}
-use Rattle.records.specs.declared.Numeral.{Numeral}
 use Rattle.records.specs.declared.Card.{Card}
 use Rattle.records.specs.declared.CardRead.{CardRead}
-use Rattle.records.specs.declared.Verdict.{Verdict}
-use Rattle.records.specs.declared.Verdict.TheVariants.{Accepted, Refused}
 use Rattle.meaning.specs.Design.{objects, list_length, occ}
 use Rattle.meaning.specs.Analysis.{member}
-use Rattle.meaning.specs.Refusals.{accepted, refused, ◌⨾◌, room}
+use Rattle.meaning.specs.Refusals.{Verdict, accepted, refused, ◌⨾◌, room}
 use Rattle.meaning.specs.Calls.{given}
 use Rattle.meaning.specs.File.{blocks_at, no_head, read_verdict}
 use Rattle.meaning.specs.Writing.{bytes_of, wrapped, sizes_body, restraint_body}
@@ -44,12 +41,12 @@ words s = words_from false 0 [] s
 -- ---- what a word says
 
 -- an object of a block as its byte: an element, or ∞, which is typed inf
-unfoldable pub object_of : List ℕ → Numeral
-object_of w = cond (same w (ascii "inf")) (record { read = true; number = 255 }) (number_of 254 w)
+unfoldable pub object_of : List ℕ → Option ℕ
+object_of w = cond (same w (ascii "inf")) (Some 255) (number_of 254 w)
 
 -- an object of the restraint by its number below 64: ∞, where it takes part, is object n
-unfoldable pub member_of : Head → List ℕ → Numeral
-member_of h w = cond (same w (ascii "inf") && (eqb (h.flag % 2) 1 && ltb h.n 64)) (record { read = true; number = h.n }) (number_of 63 w)
+unfoldable pub member_of : Head → List ℕ → Option ℕ
+member_of h w = cond (same w (ascii "inf") && (eqb (h.flag % 2) 1 && ltb h.n 64)) (Some h.n) (number_of 63 w)
 
 -- a digit in base 16, its letters large or small, and what it is worth
 unfoldable pub is_hex : ℕ → Bool
@@ -105,7 +102,7 @@ is_int32 (pos x) = ltb x (2 ^ 31)
 is_int32 (negsuc x) = ltb x (2 ^ 31)
 
 unfoldable pub is_reading : List ℕ → Bool
-is_reading w = (signed_of w).read && is_int32 (signed_of w).number
+is_reading w = is_some (signed_of w) && is_int32 (unwrap_or (signed_of w) (pos 0))
 
 -- ---- the card as far as its words go: what the next one is to be, and what stands in those before it
 
@@ -198,21 +195,21 @@ module _ (c : Card) (w : List ℕ) where
   take_kind = cond (same w (ascii "residues")) (next 2 c) (expect (ascii "field") (sizing 2 (with_flag 2 c.head) c))
 
   unfoldable pub take_size : Card
-  take_size = cond (number_of 255 w).read (sizing 3 (with_n (number_of 255 w).number c.head) c) (fail c)
+  take_size = cond (is_some (number_of 255 w)) (sizing 3 (with_n (unwrap_or (number_of 255 w) 0) c.head) c) (fail c)
 
   unfoldable pub take_fixed : Card
   take_fixed = cond (same w (ascii "no")) (next 5 c) (expect (ascii "yes") (sizing 5 (with_flag (c.head.flag + 1) c.head) c))
 
   -- an object of the first left side, which says how many stand a side; a byte holds no more than 255
   unfoldable pub take_first : Card
-  take_first = cond (object_of w).read (cond (ltb c.head.p 255) (sizing 7 (with_p (c.head.p + 1) c.head) c) (fail (next 22 c))) (fail c)
+  take_first = cond (is_some (object_of w)) (cond (ltb c.head.p 255) (sizing 7 (with_p (c.head.p + 1) c.head) c) (fail (next 22 c))) (fail c)
 
   unfoldable pub take_more : Card
   take_more = cond (same w (ascii "|")) (counting 10 0 c) take_first
 
   -- an object of a side of p: k is wanted after the last of them
   unfoldable pub take_object : ℕ → Card → Card
-  take_object k after = cond (object_of w).read (cond (eqb (c.count + 1) c.head.p) after (counting k (c.count + 1) c)) (fail c)
+  take_object k after = cond (is_some (object_of w)) (cond (eqb (c.count + 1) c.head.p) after (counting k (c.count + 1) c)) (fail c)
 
   -- another block, of which a byte counts no more than 255, or the restraint
   unfoldable pub take_block : Card
@@ -222,13 +219,13 @@ module _ (c : Card) (w : List ℕ) where
 
   -- an object of the restraint that is not yet in it
   unfoldable pub take_member : Card
-  take_member = let i = member_of c.head w in cond (i.read && eqb (member c.set i.number) 0) (standing i.number c) (fail c)
+  take_member = let i = member_of c.head w in cond (is_some i && eqb (member c.set (unwrap_or i 0)) 0) (standing (unwrap_or i 0) c) (fail c)
 
   unfoldable pub take_standard : Card
   take_standard = cond (same w (ascii "=")) (next 14 c) take_member
 
   unfoldable pub take_sum : Card
-  take_sum = cond (signed_of w).read (summing (signed_of w).number c) (fail c)
+  take_sum = cond (is_some (signed_of w)) (summing (unwrap_or (signed_of w) (pos 0)) c) (fail c)
 
   unfoldable pub take_reading : Card
   take_reading = cond (is_reading w) (weighed c) (fail c)
@@ -277,10 +274,10 @@ module _ (c : Card) (w : List ℕ) where
 
   -- the bytes of the file that the word gives: an object, a reading, the start of the names' field, a name, another optional field
   unfoldable pub object_bytes : List ℕ
-  object_bytes = cond (object_of w).read ((object_of w).number ∷ []) []
+  object_bytes = cond (is_some (object_of w)) (unwrap_or (object_of w) 0 ∷ []) []
 
   unfoldable pub reading_bytes : List ℕ
-  reading_bytes = cond (is_reading w) (bytes_of 4 (wrapped 32 (signed_of w).number)) []
+  reading_bytes = cond (is_reading w) (bytes_of 4 (wrapped 32 (unwrap_or (signed_of w) (pos 0)))) []
 
   unfoldable pub after_bytes : List ℕ
   after_bytes = cond (same w (ascii "names")) (names_tag ∷ bytes_of 2 (names_length c.head)) reading_bytes
@@ -384,8 +381,8 @@ bytes_before k at = cond (eqb k 5) (at - blocks_at) (cond (eqb k 8) (at - (block
 
 -- a refusal of the file, moved to that word; `start` is where its four fields stand
 abbrev pub moved_to : List ℕ → ℕ → Verdict → Verdict
-moved_to s start Accepted = accepted
-moved_to s start (Refused k at) = refused k (word_in (wants_for k) (bytes_before k (at - start)) s)
+moved_to s start (Ok done) = accepted
+moved_to s start (Err why) = refused why.number (word_in (wants_for why.number) (bytes_before why.number (why.place - start)) s)
 
 -- the tests of the file
 unfoldable pub file_verdict : List ℕ → Verdict

@@ -1,12 +1,10 @@
 -- The card that is printed for a file: the text from which the same job is read. Assumes nothing.
-use Rattle.std.specs.Prelude.{ℕ, zero, suc, ◌+◌, ◌*◌, ◌%◌, cond, List, [], ◌∷◌, ◌++◌, get_or, take, drop, length, ℤ, pos, eqb, ltb, leb}
+use Rattle.std.specs.Prelude.{Ok, Err, ℕ, zero, suc, ◌+◌, ◌*◌, ◌%◌, cond, List, [], ◌∷◌, ◌++◌, get_or, take, drop, length, ℤ, pos, eqb, ltb, leb}
 use Rattle.records.specs.declared.Head.{Head}
 use Rattle.records.specs.declared.Listed.{Listed}
-use Rattle.records.specs.declared.Verdict.{Verdict}
-use Rattle.records.specs.declared.Verdict.TheVariants.{Accepted, Refused}
 use Rattle.meaning.specs.Design.{objects, blocks}
 use Rattle.meaning.specs.Analysis.{member, reading}
-use Rattle.meaning.specs.Refusals.{room}
+use Rattle.meaning.specs.Refusals.{Verdict, room}
 use Rattle.meaning.specs.Calls.{given}
 use Rattle.meaning.specs.File.{big, head_of, blocks_of, readings_of, set_of, sum_of, read_verdict}
 use Rattle.meaning.specs.Text.{ascii, spaced, signed_text, each, line, hex_text, name_text, refused_line}
@@ -87,15 +85,15 @@ abbrev pub four_text : List ℕ → List ℕ
 four_text s = card_text (head_of s) (blocks_of s) (readings_of s) (set_of s) (sum_of s)
 
 abbrev pub card_under : Verdict → List ℕ → List ℕ
-card_under Accepted s = four_text s
-card_under (Refused k place) s = refused_line k place
+card_under (Ok done) s = four_text s
+card_under (Err why) s = refused_line why.number why.place
 
 unfoldable pub card_text_of : List ℕ → List ℕ
 card_text_of s = card_under (read_verdict s) s
 
 abbrev pub card_under2 : Verdict → List ℕ → List ℕ
-card_under2 Accepted s = four_text (four_of s) ++ names_line s ++ other_lines (length s) s (others_at s)
-card_under2 (Refused k place) s = refused_line k place
+card_under2 (Ok done) s = four_text (four_of s) ++ names_line s ++ other_lines (length s) s (others_at s)
+card_under2 (Err why) s = refused_line why.number why.place
 
 unfoldable pub card_text_of2 : List ℕ → List ℕ
 card_text_of2 s = card_under2 (read_verdict2 s) s

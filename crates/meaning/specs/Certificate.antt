@@ -1,16 +1,12 @@
 -- The standard uncertainty of each weight, and the certificate: a text of fixed width with both, for every file. Assumes nothing.
-use Rattle.std.specs.Prelude.{ℕ, zero, suc, ◌+◌, ◌-◌, ◌*◌, ◌/◌, ◌%◌, cond, List, [], ◌∷◌, ◌++◌, take, drop, length, ℤ, pos, negsuc, ◌*ℤ◌, eqb}
+use Rattle.std.specs.Prelude.{Float, Some, Option, Ok, None, Err, ℕ, zero, suc, ◌+◌, ◌-◌, ◌*◌, ◌/◌, ◌%◌, cond, List, [], ◌∷◌, ◌++◌, take, drop, length, ℤ, pos, negsuc, ◌*ℤ◌, eqb}
 use Prim.Native.String.{String}
 use Rattle.records.specs.declared.Head.{Head}
 use Rattle.records.specs.declared.Parameters.{Parameters}
 use Rattle.records.specs.declared.Spread.{Spread}
-use Rattle.records.specs.declared.Spread.TheVariants.{Of, None}
 use Rattle.records.specs.declared.Spreading.{Spreading}
-use Rattle.records.specs.declared.Verdict.{Verdict}
-use Rattle.records.specs.declared.Verdict.TheVariants.{Accepted, Refused}
 use Rattle.records.specs.declared.Listed.{Listed}
 use Rattle.records.specs.declared.Uncertainty.{Uncertainty}
-use Rattle.records.specs.declared.Uncertainty.TheVariants.{Stated, Unstated}
 use Rattle.records.specs.declared.ObjectUncertainty.{ObjectUncertainty}
 use Rattle.meaning.specs.Design.{objects, parameters_of}
 use Rattle.meaning.specs.Analysis.{member, restrained, vbeta, denominator_of, factor, qOf, freedom, root}
@@ -19,6 +15,7 @@ use Rattle.meaning.specs.Calls.{given, value_verdict, spreading_of}
 use Rattle.meaning.specs.File.{head_of, blocks_of, readings_of, set_of, sum_of, read_verdict}
 use Rattle.meaning.specs.Text.{ascii, digits, spaced, name_text, each, line, refused_line, text_answer, text_after}
 use Rattle.meaning.specs.Edition2.{four_of, names_at, read_verdict2}
+use Rattle.meaning.specs.Refusals.{Verdict}
 
 -- ---- the standard uncertainty
 
@@ -34,25 +31,29 @@ unfoldable pub uncertainty_hundredths : ℕ → ℕ → ℕ → ℕ → ℕ → 
 uncertainty_hundredths Q tvb vb zero c = 0
 uncertainty_hundredths Q tvb vb (suc f) c = least_over (10000 * Q * c) (tvb * vb * suc f)
 
--- the standard uncertainty: u hundredths; none is stated where f is 0
-abbrev pub stated_with : ℕ → ℕ → Uncertainty
-stated_with u zero = Unstated
-stated_with u (suc f) = Stated u (float (pos u) 100)
+-- a standard uncertainty by its hundredths and their f64
+abbrev pub states : ℕ → Float → Option Uncertainty
+states hundredths value = Some (record { hundredths = hundredths; value = value })
 
-abbrev pub uncertainty_from : ℕ → ℕ → ℕ → ℕ → ℕ → Uncertainty
+-- the standard uncertainty: u hundredths; none is stated where f is 0
+abbrev pub stated_with : ℕ → ℕ → Option Uncertainty
+stated_with u zero = None
+stated_with u (suc f) = states u (float (pos u) 100)
+
+abbrev pub uncertainty_from : ℕ → ℕ → ℕ → ℕ → ℕ → Option Uncertainty
 uncertainty_from Q tvb vb f c = stated_with (uncertainty_hundredths Q tvb vb f c) f
 
 -- u of object i in a job, and its standard uncertainty
 abbrev pub uncertainty_hundredths_of : Head → List ℕ → List ℤ → ℕ → ℕ → ℕ
 uncertainty_hundredths_of h d y w i = uncertainty_hundredths (qOf h d y) (denominator_of h d w) (vbeta h d) (freedom h) (factor h w i)
 
-unfoldable pub uncertainty_of : Head → List ℕ → List ℤ → ℕ → ℕ → Uncertainty
+unfoldable pub uncertainty_of : Head → List ℕ → List ℤ → ℕ → ℕ → Option Uncertainty
 uncertainty_of h d y w i = uncertainty_from (qOf h d y) (denominator_of h d w) (vbeta h d) (freedom h) (factor h w i)
 
 -- what the call for one object answers: it refuses as the call for the object's value does, and a refusal states nothing
 abbrev pub uncertainty_answer : Head → List ℕ → List ℤ → ℕ → ℤ → ℕ → ObjectUncertainty
 uncertainty_answer h d y w M i = let verdict = value_verdict h d y w M i in
-    record { verdict = verdict; uncertainty = given verdict (uncertainty_of h d y w i) Unstated }
+    record { verdict = verdict; uncertainty = given verdict (uncertainty_of h d y w i) None }
 
 -- ---- columns
 
@@ -77,12 +78,12 @@ counts_text (pos n) = two_decimals n
 counts_text (negsuc n) = 45 ∷ two_decimals (suc n)
 
 -- a standard uncertainty, and a spread, in counts
-abbrev pub uncertainty_text : Uncertainty → List ℕ
-uncertainty_text (Stated u x) = two_decimals u
-uncertainty_text Unstated = ascii "none"
+abbrev pub uncertainty_text : Option Uncertainty → List ℕ
+uncertainty_text (Some u) = two_decimals u.hundredths
+uncertainty_text None = ascii "none"
 
-abbrev pub spread_text : Spread → ℕ → List ℕ
-spread_text (Of x f) k = two_decimals k
+abbrev pub spread_text : Option Spread → ℕ → List ℕ
+spread_text (Some spread) k = two_decimals k
 spread_text None k = ascii "none"
 
 -- ---- lines
@@ -102,7 +103,7 @@ columns_line = line "weight  name                             standard          
 abbrev pub standard_word : ℕ → List ℕ
 standard_word m = cond (eqb m 1) (ascii "yes") (ascii "no")
 
-abbrev pub weight_line : ℕ → List ℕ → ℕ → ℤ → Uncertainty → List ℕ
+abbrev pub weight_line : ℕ → List ℕ → ℕ → ℤ → Option Uncertainty → List ℕ
 weight_line i name m hundredths u = at_left 8 (digits 20 i) ++ at_left 33 name ++ at_left 10 (standard_word m)
     ++ at_right 22 (counts_text hundredths) ++ at_right 22 (uncertainty_text u) ++ (10 ∷ [])
 
@@ -136,8 +137,8 @@ name_from s (suc at) i = name_text (take 8 (drop (suc at + 8 * i) s))
 
 -- the text for the four fields of a file by its verdict: the certificate, or the refusal alone, as the listing has it
 abbrev pub certificate_under : Verdict → List ℕ → (ℕ → List ℕ) → List ℕ
-certificate_under Accepted s name = certificate_text (head_of s) (blocks_of s) (readings_of s) (set_of s) (sum_of s) name
-certificate_under (Refused k place) s name = refused_line k place
+certificate_under (Ok done) s name = certificate_text (head_of s) (blocks_of s) (readings_of s) (set_of s) (sum_of s) name
+certificate_under (Err why) s name = refused_line why.number why.place
 
 -- the text for any file of the first edition, which has no names, and for any file of the second
 unfoldable pub certificate_of : List ℕ → List ℕ

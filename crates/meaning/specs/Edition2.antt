@@ -1,16 +1,14 @@
 -- The second edition of the job file (02, P7): an edition field, the four fields, then optional fields; and what each call on it answers. The four fields
 -- are a file of the first edition that starts at a place: they are read as one, and what is refused in them is moved to its place in the whole. Assumes
 -- nothing.
-use Rattle.std.specs.Prelude.{ℕ, zero, suc, ◌+◌, ◌*◌, cond, not, ◌||◌, List, [], ◌∷◌, ◌++◌, get_or, take, drop, length, ℤ, pos, eqb, leb}
+use Rattle.std.specs.Prelude.{Ok, Err, ℕ, zero, suc, ◌+◌, ◌*◌, cond, not, ◌||◌, List, [], ◌∷◌, ◌++◌, get_or, take, drop, length, ℤ, pos, eqb, leb}
 use Rattle.records.specs.declared.Head.{Head}
-use Rattle.records.specs.declared.Verdict.{Verdict}
-use Rattle.records.specs.declared.Verdict.TheVariants.{Accepted, Refused}
 use Rattle.records.specs.declared.JobWritten.{JobWritten}
 use Rattle.records.specs.declared.Listed.{Listed}
 use Rattle.records.specs.declared.SecondRead.{SecondRead}
 use Rattle.records.specs.declared.Solved.{Solved}
 use Rattle.meaning.specs.Design.{objects}
-use Rattle.meaning.specs.Refusals.{accepted, refused, test, ◌⨾◌, room}
+use Rattle.meaning.specs.Refusals.{Verdict, accepted, refused, test, ◌⨾◌, room}
 use Rattle.meaning.specs.Calls.{given, slices, contents, rooms, words_under, values_under, deviations_under, solved_under}
 use Rattle.meaning.specs.File.{
   big,
@@ -54,8 +52,8 @@ four_of s = take (end_at (drop start_at s)) (drop start_at s)
 
 -- a refusal of the four fields moved to its place in the whole file; those of 6 and 10 stay at 0
 abbrev pub moved_on : Verdict → Verdict
-moved_on Accepted = accepted
-moved_on (Refused k at) = refused k (cond (eqb k 6 || eqb k 10) at (start_at + at))
+moved_on (Ok done) = accepted
+moved_on (Err why) = refused why.number (cond (eqb why.number 6 || eqb why.number 10) why.place (start_at + why.place))
 
 -- ---- optional fields
 

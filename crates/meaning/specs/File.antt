@@ -1,14 +1,12 @@
 -- The job file, in the request's order. Assumes nothing.
-use Rattle.std.specs.Prelude.{ℕ, zero, suc, ◌+◌, ◌-◌, ◌*◌, ◌^◌, cond, ◌||◌, List, [], ◌∷◌, get_or, take, drop, length, ℤ, pos, ◌-ℤ◌, eqb, ltb, leb}
+use Rattle.std.specs.Prelude.{Result, Ok, Err, ℕ, zero, suc, ◌+◌, ◌-◌, ◌*◌, ◌^◌, cond, ◌||◌, List, [], ◌∷◌, get_or, take, drop, length, ℤ, pos, ◌-ℤ◌, eqb, ltb, leb}
+use Rattle.records.specs.declared.Body.{Body}
 use Rattle.records.specs.declared.Head.{Head}
-use Rattle.records.specs.declared.Field.{Field}
-use Rattle.records.specs.declared.Field.TheVariants.{Body, Unfit}
-use Rattle.records.specs.declared.Verdict.{Verdict}
-use Rattle.records.specs.declared.Verdict.TheVariants.{Accepted, Refused}
+use Rattle.records.specs.declared.Refusal.{Refusal}
 use Rattle.records.specs.declared.JobRead.{JobRead}
 use Rattle.records.specs.declared.Solved.{Solved}
 use Rattle.meaning.specs.Design.{blocks, list_length}
-use Rattle.meaning.specs.Refusals.{accepted, refused, test, ◌⨾◌, sizes}
+use Rattle.meaning.specs.Refusals.{Verdict, accepted, refused, test, ◌⨾◌, sizes}
 use Rattle.meaning.specs.Calls.{given, contents, rooms, words_under, values_under, deviations_under, solved_under}
 
 -- the number that c bytes from `at` on make, the first the highest
@@ -39,28 +37,38 @@ field_verdict s at tag len =
     ⨾ test (eqb (big s (at + 1) 2) len) 3 at
     ⨾ test (leb (at + 3 + len) (length s)) 1 at
 
--- a field by its verdict: where its body starts and the byte after it, or its refusal
+-- a field that was looked for: where its body starts and the byte after it, or its refusal
+abbrev pub Field : Type 0
+Field = Result Body Refusal
+
+abbrev pub stands : ℕ → ℕ → Field
+stands start next = Ok (record { start = start; next = next })
+
+abbrev pub unfit : ℕ → ℕ → Field
+unfit number place = Err (record { number = number; place = place })
+
+-- a field by its verdict
 abbrev pub field_under : Verdict → ℕ → ℕ → Field
-field_under Accepted at len = Body (at + 3) (at + 3 + len)
-field_under (Refused k place) at len = Unfit k place
+field_under (Ok done) at len = stands (at + 3) (at + 3 + len)
+field_under (Err why) at len = unfit why.number why.place
 
 unfoldable pub field_at : List ℕ → ℕ → ℕ → ℕ → Field
 field_at s at tag len = field_under (field_verdict s at tag len) at len
 
 -- a field's answer as a verdict, which has its number and place
 abbrev pub field_says : Field → Verdict
-field_says (Body start next) = accepted
-field_says (Unfit k place) = refused k place
+field_says (Ok body) = accepted
+field_says (Err why) = refused why.number why.place
 
 -- where the body of a field starts, 0 where there is none
 abbrev pub field_start : Field → ℕ
-field_start (Body start next) = start
-field_start (Unfit k place) = 0
+field_start (Ok body) = body.start
+field_start (Err why) = 0
 
 -- where a reader at `at` stands after a field: past it, or, on a refusal, at its start
 abbrev pub field_next : Field → ℕ → ℕ
-field_next (Body start next) at = next
-field_next (Unfit k place) at = at
+field_next (Ok body) at = body.next
+field_next (Err why) at = at
 
 -- ---- what a file holds
 
@@ -113,8 +121,8 @@ fields s =
 
 -- a direct call's refusal of what a file holds, moved to its place in the file: 5 to that byte, 7 and 11 to the field's start, 8 to the reading's first byte
 abbrev pub placed : List ℕ → Verdict → Verdict
-placed s Accepted = accepted
-placed s (Refused k i) = refused k (cond (eqb k 5) (blocks_at + i) (cond (eqb k 7 || eqb k 11) (third_at s) (cond (eqb k 8) (readings_at s + 4 * i) i)))
+placed s (Ok done) = accepted
+placed s (Err why) = refused why.number (cond (eqb why.number 5) (blocks_at + why.place) (cond (eqb why.number 7 || eqb why.number 11) (third_at s) (cond (eqb why.number 8) (readings_at s + 4 * why.place) why.place)))
 
 -- the verdict of reading: the fields, then what they hold, looked at as a direct call does
 unfoldable pub read_verdict : List ℕ → Verdict

@@ -3,13 +3,12 @@
 use Rattle.std.specs.Prelude.{ℕ, zero, suc, ◌+◌, ◌-◌, ◌*◌, ◌/◌, ◌%◌, ◌<◌, Bool, cond, not, ◌&&◌, ◌||◌, List, [], ◌∷◌, ◌++◌, map, ◌≡◌, get_or, take, drop, length, eqb, ltb, leb}
 use Rattle.algebra.specs.Ranges.{all, first_from}
 use Rattle.records.specs.declared.Head.{Head}
-use Rattle.records.specs.declared.Verdict.{Verdict}
 use Rattle.records.specs.declared.GroupCounts.{GroupCounts}
 use Rattle.records.specs.declared.Grouped.{Grouped}
 use Rattle.records.specs.declared.GroupParameters.{GroupParameters}
 use Rattle.records.specs.declared.GroupedSet.{GroupedSet}
 use Rattle.meaning.specs.Design.{objects, blocks, list_length, occ, left, right, company_in, opposition_in, company, opposition, beta}
-use Rattle.meaning.specs.Refusals.{◌⨾◌, test, sizes, length_is, clean, in_balance, room}
+use Rattle.meaning.specs.Refusals.{Verdict, ◌⨾◌, test, sizes, length_is, clean, in_balance, room}
 use Rattle.meaning.specs.Calls.{given, written, word}
 
 -- ---- any blocks: a list of objects, p left and p right ones for each block

@@ -1,13 +1,12 @@
 -- The pooled spread (02, P13): up to 64 files of the first edition, laid end to end, with a list of their lengths. Assumes nothing.
 use Rattle.std.specs.Prelude.{ℕ, suc, ◌+◌, cond, ◌&&◌, List, [], ◌∷◌, get_or, take, drop, length, eqb, ltb, leb}
-use Rattle.records.specs.declared.Verdict.{Verdict}
 use Rattle.records.specs.declared.Spreading.{Spreading}
 use Rattle.records.specs.declared.Pooled.{Pooled}
 use Rattle.meaning.specs.Design.{objects, beta}
 use Rattle.meaning.specs.Analysis.{vbeta, qOf, freedom, spread_hundredths}
 use Rattle.meaning.specs.Wide.{wide}
 use Rattle.meaning.specs.Publishing.{spread_of}
-use Rattle.meaning.specs.Refusals.{accepted, test, ◌⨾◌}
+use Rattle.meaning.specs.Refusals.{Verdict, accepted, test, ◌⨾◌}
 use Rattle.meaning.specs.Calls.{given, no_spreading}
 use Rattle.meaning.specs.File.{head_of, blocks_of, readings_of, read_verdict}
 

@@ -2,11 +2,10 @@
 use Rattle.std.specs.Prelude.{ℕ, zero, suc, ◌+◌, ◌-◌, ◌*◌, ◌/◌, ◌%◌, ◌^◌, Bool, ◌&&◌, List, [], ◌∷◌, ◌++◌, get_or, drop, length, ℤ, pos, ◌+ℤ◌, ◌-ℤ◌, nat_abs, leb}
 use Rattle.algebra.specs.Ranges.{all}
 use Rattle.records.specs.declared.Head.{Head}
-use Rattle.records.specs.declared.Verdict.{Verdict}
 use Rattle.records.specs.declared.JobWritten.{JobWritten}
 use Rattle.meaning.specs.Design.{objects, blocks, list_length}
 use Rattle.meaning.specs.Analysis.{restrained, difference}
-use Rattle.meaning.specs.Refusals.{◌⨾◌, test, sizes, length_is, clean, in_balance, restraint, room}
+use Rattle.meaning.specs.Refusals.{Verdict, ◌⨾◌, test, sizes, length_is, clean, in_balance, restraint, room}
 use Rattle.meaning.specs.Calls.{given, written}
 use Rattle.meaning.specs.Writing.{file_of, file_length}
 

@@ -1,12 +1,11 @@
 -- What is handed out for a value: its published hundredths and its f64; and the spread as an enum. Assumes nothing.
-use Rattle.std.specs.Prelude.{ℕ, zero, suc, ◌+◌, ◌-◌, ◌*◌, ◌/◌, ◌%◌, ◌^◌, ◌≤◌, Bool, true, false, cond, ◌&&◌, ◌||◌, List, ◌≡◌, ℤ, pos, negsuc, neg_ℤ, nat_abs, ◌+ℤ◌, ◌-ℤ◌, ◌*ℤ◌, eqb, ltb, Float}
+use Rattle.std.specs.Prelude.{None, Some, Option, ℕ, zero, suc, ◌+◌, ◌-◌, ◌*◌, ◌/◌, ◌%◌, ◌^◌, ◌≤◌, Bool, true, false, cond, ◌&&◌, ◌||◌, List, ◌≡◌, ℤ, pos, negsuc, neg_ℤ, nat_abs, ◌+ℤ◌, ◌-ℤ◌, ◌*ℤ◌, eqb, ltb, Float}
 use Rattle.std.specs.Float.{nan, inf, fin, binary64}
 use Rattle.std.specs.Float.Ieee.{up, down, round}
 use Rattle.algebra.specs.Ranges.{sum_ℕ}
 use Rattle.records.specs.declared.Head.{Head}
 use Rattle.records.specs.declared.Value.{Value}
 use Rattle.records.specs.declared.Spread.{Spread}
-use Rattle.records.specs.declared.Spread.TheVariants.{Of, None}
 use Rattle.meaning.specs.Design.{objects}
 use Rattle.meaning.specs.Analysis.{member, restrained, numerator_of, denominator_of, factor}
 
@@ -90,21 +89,24 @@ value_of h d y w M i = let a = numerator_of h d y w M i in let e = denominator_o
 abbrev pub no_value : Value
 no_value = record { numerator = pos 0; denominator = 0; hundredths = pos 0; value = float_zero; factor = 0; factor_value = float_zero }
 
--- no spread
-abbrev pub no_spread : Spread
+-- a spread by its f64 and its degrees of freedom, and none
+abbrev pub spreads : Float → ℕ → Option Spread
+spreads value freedom = Some (record { value = value; freedom = freedom })
+
+abbrev pub no_spread : Option Spread
 no_spread = None
 
 -- the spread: k hundredths with f degrees of freedom; none where f is 0
-abbrev pub spread_of : ℕ → ℕ → Spread
+abbrev pub spread_of : ℕ → ℕ → Option Spread
 spread_of k zero = no_spread
-spread_of k (suc f) = Of (float (pos k) 100) (suc f)
+spread_of k (suc f) = spreads (float (pos k) 100) (suc f)
 
 -- the f64 of a spread; 0.0 for none
-abbrev pub spread_value : Spread → Float
-spread_value (Of x f) = x
+abbrev pub spread_value : Option Spread → Float
+spread_value (Some spread) = spread.value
 spread_value None = float_zero
 
 -- the degrees of freedom of a spread; 0 for none
-abbrev pub spread_freedom : Spread → ℕ
-spread_freedom (Of x f) = f
+abbrev pub spread_freedom : Option Spread → ℕ
+spread_freedom (Some spread) = spread.freedom
 spread_freedom None = 0

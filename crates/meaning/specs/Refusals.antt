@@ -1,29 +1,32 @@
 -- The tests that a call makes, each with the number and place of its refusal. A chain of them, in the request's order, is a call's verdict. Assumes
 -- nothing.
-use Rattle.std.specs.Prelude.{ℕ, ◌-◌, ◌*◌, ◌%◌, ◌^◌, Bool, true, false, cond, not, ◌&&◌, ◌||◌, List, get_or, take, drop, length, ℤ, nat_abs, eqb, ltb, leb}
+use Rattle.std.specs.Prelude.{Result, Ok, Err, ⊤, ℕ, ◌-◌, ◌*◌, ◌%◌, ◌^◌, Bool, true, false, cond, not, ◌&&◌, ◌||◌, List, get_or, take, drop, length, ℤ, nat_abs, eqb, ltb, leb}
 use Rattle.algebra.specs.Ranges.{first_from}
 use Rattle.records.specs.declared.Head.{Head}
-use Rattle.records.specs.declared.Verdict.{Verdict}
-use Rattle.records.specs.declared.Verdict.TheVariants.{Accepted, Refused}
+use Rattle.records.specs.declared.Refusal.{Refusal}
 use Rattle.meaning.specs.Design.{objects, with_fixed, sized, occ, balanced}
 use Rattle.meaning.specs.Analysis.{reading, members}
 
+-- a verdict: a call accepts, or refuses
+abbrev pub Verdict : Type 0
+Verdict = Result ⊤ Refusal
+
 -- the two verdicts by name
 abbrev pub accepted : Verdict
-accepted = Accepted
+accepted = Ok tt
 
 abbrev pub refused : ℕ → ℕ → Verdict
-refused number place = Refused number place
+refused number place = Err (record { number = number; place = place })
 
 -- the number of a verdict, 0 where it accepts
 abbrev pub number : Verdict → ℕ
-number Accepted = 0
-number (Refused k at) = k
+number (Ok done) = 0
+number (Err why) = why.number
 
 -- the place of a verdict, 0 where it accepts
 abbrev pub place : Verdict → ℕ
-place Accepted = 0
-place (Refused k at) = at
+place (Ok done) = 0
+place (Err why) = why.place
 
 -- a test, with the number and the place of its refusal
 abbrev pub test : Bool → ℕ → ℕ → Verdict
@@ -33,8 +36,8 @@ test false k at = refused k at
 -- one test after another: the first that refuses counts
 infixl 25 ◌⨾◌
 abbrev pub ◌⨾◌ : Verdict → Verdict → Verdict
-Accepted ⨾ after = after
-Refused k at ⨾ after = refused k at
+Ok done ⨾ after = after
+Err why ⨾ after = Err why
 
 -- the largest reading, and the largest accepted sum
 abbrev pub reading_limit : ℕ

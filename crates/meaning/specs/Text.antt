@@ -1,21 +1,18 @@
 -- The listing: the text that the bench prints for a file, line by line. Assumes nothing.
-use Rattle.std.specs.Prelude.{ℕ, zero, suc, ◌+◌, ◌/◌, ◌%◌, cond, not, ◌&&◌, List, [], ◌∷◌, ◌++◌, take, drop, length, ℤ, pos, negsuc, eqb, ltb}
+use Rattle.std.specs.Prelude.{None, Some, Option, Ok, Err, ℕ, zero, suc, ◌+◌, ◌/◌, ◌%◌, cond, not, ◌&&◌, List, [], ◌∷◌, ◌++◌, take, drop, length, ℤ, pos, negsuc, eqb, ltb}
 use Prim.Native.Char.{code}
 use Prim.Native.String.{String, [] as none, ◌∷◌ as ◌then◌}
 use Rattle.records.specs.declared.Head.{Head}
 use Rattle.records.specs.declared.Parameters.{Parameters}
 use Rattle.records.specs.declared.Spread.{Spread}
-use Rattle.records.specs.declared.Spread.TheVariants.{Of, None}
 use Rattle.records.specs.declared.Spreading.{Spreading}
-use Rattle.records.specs.declared.Verdict.{Verdict}
-use Rattle.records.specs.declared.Verdict.TheVariants.{Accepted, Refused}
 use Rattle.records.specs.declared.Listed.{Listed}
 use Rattle.records.specs.declared.Wide.{Wide}
 use Rattle.meaning.specs.Design.{objects, blocks, parameters_of}
 use Rattle.meaning.specs.Analysis.{numerator_of, denominator_of, deviation_of, vbeta}
 use Rattle.meaning.specs.Wide.{value}
 use Rattle.meaning.specs.Publishing.{published}
-use Rattle.meaning.specs.Refusals.{room}
+use Rattle.meaning.specs.Refusals.{Verdict, room}
 use Rattle.meaning.specs.Calls.{given, spreading_of}
 use Rattle.meaning.specs.File.{head_of, blocks_of, readings_of, set_of, sum_of, read_verdict}
 
@@ -88,8 +85,8 @@ abbrev pub dev_line : ℕ → ℤ → ℕ → List ℕ
 dev_line k a d = line "dev" (spaced k ++ signed_text a ++ spaced d)
 
 -- the last word of the listing: k, or none where there is no spread
-abbrev pub last_word : Spread → ℕ → List ℕ
-last_word (Of x f) k = spaced k
+abbrev pub last_word : Option Spread → ℕ → List ℕ
+last_word (Some spread) k = spaced k
 last_word None k = ascii " none"
 
 -- Q, v·beta, f, k
@@ -109,8 +106,8 @@ refused_line k place = line "refused" (spaced k ++ spaced place)
 
 -- the text for a file by its verdict: the listing, or the refusal alone
 abbrev pub text_under : Verdict → List ℕ → List ℕ
-text_under Accepted s = job_text (head_of s) (blocks_of s) (readings_of s) (set_of s) (sum_of s)
-text_under (Refused k place) s = refused_line k place
+text_under (Ok done) s = job_text (head_of s) (blocks_of s) (readings_of s) (set_of s) (sum_of s)
+text_under (Err why) s = refused_line why.number why.place
 
 -- the text for any file
 unfoldable pub text_of : List ℕ → List ℕ

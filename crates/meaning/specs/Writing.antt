@@ -1,10 +1,9 @@
 -- The job file as it is written, field after field, by the lengths that reading goes by, and what the call that writes it answers. Assumes nothing.
 use Rattle.std.specs.Prelude.{ℕ, zero, suc, ◌+◌, ◌-◌, ◌*◌, ◌/◌, ◌%◌, ◌^◌, ◌<◌, ◌≡◌, List, [], ◌∷◌, ◌++◌, get_or, drop, length, ℤ, pos, negsuc}
 use Rattle.records.specs.declared.Head.{Head}
-use Rattle.records.specs.declared.Verdict.{Verdict}
 use Rattle.records.specs.declared.JobWritten.{JobWritten}
 use Rattle.meaning.specs.Design.{blocks, list_length}
-use Rattle.meaning.specs.Refusals.{accepted, ◌⨾◌, room}
+use Rattle.meaning.specs.Refusals.{Verdict, accepted, ◌⨾◌, room}
 use Rattle.meaning.specs.Calls.{given, job_verdict}
 use Rattle.meaning.specs.File.{body_length, head_of, blocks_of, readings_of, set_of, sum_of, read_verdict}
 

@@ -9,10 +9,7 @@ use crate::signed::signed_32;
 fn entry(bytes: &[u8], place: usize, i: usize) -> i32
     ensures { result ≡ twos 32 (big bytes.now (place + 4 * i) 4) }
 {
-    if bytes.len() <= place {
-        return 0;
-    }
-    if bytes.len() / 4 < i {
+    if place >= bytes.len() || i > bytes.len() / 4 {
         return 0;
     }
     signed_32(bytes, place + 4 * i)
@@ -22,12 +19,8 @@ fn entry(bytes: &[u8], place: usize, i: usize) -> i32
 pub fn readings(bytes: &[u8], place: usize, count: usize, out: &mut [i32])
     ensures { out.new ≡ over count (λ k. twos 32 (big bytes.now (place + 4 * k) 4)) out.old }
 {
-    let mut i = 0;
-    while i < count {
-        if out.len() <= i {
-            return;
-        }
-        out[i] = entry(bytes, place, i);
-        i += 1;
+    let kept = count.min(out.len());
+    for (i, reading) in out[..kept].iter_mut().enumerate() {
+        *reading = entry(bytes, place, i);
     }
 }

@@ -7,44 +7,42 @@ ghost use Rattle.meaning.specs.File.{big};
 pub fn byte(bytes: &[u8], place: usize) -> u8
     ensures { result ≡ get_or bytes.now place 0 }
 {
-    if bytes.len() <= place {
-        return 0;
-    }
-    bytes[place]
+    bytes.get(place).copied().unwrap_or(0)
 }
+
+// The three functions below stay apart: each has a type and a promise of its own, and is made of two of the smaller. Past the end bytes read as 0, so
+// that there is no slice of them to take.
 
 // The number of two bytes.
 pub fn two_bytes(bytes: &[u8], place: usize) -> u16
     ensures { result ≡ big bytes.now place 2 }
 {
-    if bytes.len() <= place {
+    if place >= bytes.len() {
         return 0;
     }
-    let high = byte(bytes, place);
-    let low = byte(bytes, place + 1);
-    high as u16 * 0x100 + low as u16
+    u16::from_be_bytes([byte(bytes, place), byte(bytes, place + 1)])
 }
 
 // The number of four bytes.
 pub(crate) fn four_bytes(bytes: &[u8], place: usize) -> u32
     ensures { result ≡ big bytes.now place 4 }
 {
-    if bytes.len() <= place {
+    if place >= bytes.len() {
         return 0;
     }
     let high = two_bytes(bytes, place);
     let low = two_bytes(bytes, place + 2);
-    high as u32 * 0x1_0000 + low as u32
+    (u32::from(high) << 16) + u32::from(low)
 }
 
 // The number of eight bytes.
 pub fn eight_bytes(bytes: &[u8], place: usize) -> u64
     ensures { result ≡ big bytes.now place 8 }
 {
-    if bytes.len() <= place {
+    if place >= bytes.len() {
         return 0;
     }
     let high = four_bytes(bytes, place);
     let low = four_bytes(bytes, place + 4);
-    high as u64 * 0x1_0000_0000 + low as u64
+    (u64::from(high) << 32) + u64::from(low)
 }

@@ -1,11 +1,13 @@
 -- What the verdicts of practice come to, test by test, and what is left and handed back under them.
 --     practised-judged, known-..     past the lengths: the judgement of the design, then 16
 --     practice-..                    the verdict of the readings, with too little room and with enough
---     words-laid                     the words of an accepted practice, once they are developed
+--     develops, words-laid           an accepted practice is developed, and the words that it then has
 --     front_few, front_readings      the readings, from the front of a room of 1,300
 --     file_unwritten, file-written   the file of a practice job, refused and written
 -- Assumes nothing.
 use Rattle.std.proofs.Common.{
+  Ok,
+  Err,
   ◌≡◌,
   ℕ,
   zero,
@@ -40,10 +42,8 @@ use Rattle.algebra.proofs.Filling.{over_ext, over-long}
 use Rattle.algebra.proofs.Tests.{and_both, and_fails_left, and_fails_right}
 use Rattle.records.specs.declared.Head.{Head}
 use Rattle.records.specs.declared.JobWritten.{JobWritten}
-use Rattle.records.specs.declared.Verdict.{Verdict}
-use Rattle.records.specs.declared.Verdict.TheVariants.{Accepted, Refused}
 use Rattle.meaning.specs.Design.{objects, blocks, sized, list_length}
-use Rattle.meaning.specs.Refusals.{◌⨾◌, accepted, refused, room, restraint}
+use Rattle.meaning.specs.Refusals.{Verdict, ◌⨾◌, accepted, refused, room, restraint}
 use Rattle.meaning.specs.Calls.{given, design_verdict, written, judge_verdict, develop_verdict, words_under, word_at}
 use Rattle.meaning.specs.Writing.{file_of, file_length, write_verdict, written_answer, written_after}
 use Rattle.meaning.specs.Practice.{
@@ -107,8 +107,8 @@ module _ (h : Head) (d : List ℕ) (u : List ℤ) (w : ℕ) where
   practice_roomy = go (practised h d u w) refl
     where
       go : (v : Verdict) → practised h d u w ≡ v → practice_verdict h d u w 1300 ≡ practised h d u w
-      go Accepted e = practice_enough 1300 e (practised-is h d u w e).design.sizes.blocks-most ∙ sym e
-      go (Refused k at) e = practice_refused 1300 k at e ∙ sym e
+      go (Ok done) e = practice_enough 1300 e (practised-is h d u w e).design.sizes.blocks-most ∙ sym e
+      go (Err why) e = practice_refused 1300 why.number why.place e ∙ sym e
 
   module _ (start : ℕ) (readings : List ℤ) where
     -- a refusal leaves the room
@@ -125,12 +125,16 @@ module _ (h : Head) (d : List ℕ) (u : List ℤ) (w : ℕ) where
 -- ---- the words
 
 -- 2,600 places are enough for any development
-pub words-laid : (h : Head) (d l words : List ℕ) → Sound h d → length l ≡ 2600 → words ≡ words_under (develop_verdict h d 2600) h d l → Laid h d words
+pub develops : (h : Head) (d : List ℕ) {len : ℕ} → Sound h d → len ≡ 2600 → develop_verdict h d len ≡ accepted
 unfolding develop_verdict
+develops h d {len} s m =
+    let enough : 2 * blocks h ≤ len = omega (arith, s.sizes.blocks-most, m) in
+    accepts (sound_accepted h d s) (test_yes (leb (2 * blocks h) len) 10 0 (le-leb _ _ enough))
+
+pub words-laid : (h : Head) (d l words : List ℕ) → Sound h d → length l ≡ 2600 → words ≡ words_under (develop_verdict h d 2600) h d l → Laid h d words
 words-laid h d l words s m e =
-    let enough : 2 * blocks h ≤ 2600 = omega (arith, s.sizes.blocks-most) in
-    laid h d l words s (omega (arith, m, enough)) (e ∙ given_yes (develop_verdict h d 2600) (over (2 * blocks h) (word_at h d) l) l
-    (accepts (sound_accepted h d s) (test_yes (leb (2 * blocks h) 2600) 10 0 (le-leb _ _ enough))))
+    laid h d l words s (omega (arith, m, s.sizes.blocks-most))
+    (e ∙ given_yes (develop_verdict h d 2600) (over (2 * blocks h) (word_at h d) l) l (develops h d s refl))
 
 -- ---- the file
 

@@ -22,6 +22,7 @@ pub fn practice_file(
 {
     let mut readings = [0i32; 1300];
     let tested = practice(head, blocks, truths, start, width, &mut readings);
+    // A refusal hands back zeros beside its verdict.
     if is_refused(tested) {
         return JobWritten {
             verdict: tested,

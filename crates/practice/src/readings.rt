@@ -7,8 +7,7 @@ ghost use Rattle.practice.specs.Drawn.{Known, between, reading_in};
 use crate::generator::{noise_in, step};
 use crate::known::practice_refusal;
 use design::develop;
-use records::{Head, Verdict};
-use verdicts::is_refused;
+use records::{Head, Refusal, Verdict};
 use words::holds;
 
 // Lays the b practice readings into `readings`.
@@ -23,18 +22,18 @@ pub fn practice(
     ensures value { result ≡ practice_verdict head blocks.now truths.now width (length readings.old) }
     ensures readings_after { readings.new ≡ practice_after head blocks.now truths.now start width readings.old }
 {
-    let tested = practice_refusal(head, blocks, truths, width);
-    if is_refused(tested) {
-        return tested;
-    }
+    practice_refusal(head, blocks, truths, width)?;
     let b = head.m * head.n;
     if readings.len() < b {
-        return Verdict::Refused(10, 0);
+        return Err(Refusal {
+            number: 10,
+            place: 0,
+        });
     }
     let mut words = [0u64; 2600];
-    develop(head, blocks, &mut words);
+    develop(head, blocks, &mut words)?;
     fill_readings(&words, truths, b, start, width, readings);
-    tested
+    Ok(())
 }
 
 // Lays the readings of b blocks into `readings`: the number that makes the noise is stepped once per block before use.
@@ -51,12 +50,10 @@ fn fill_readings(
         readings.old }
 {
     let mut x = start;
-    let mut k = 0;
-    while k < b {
-        let next = step(x);
-        readings[k] = reading_of(words, truths, width, next, k);
-        x = next;
-        k += 1;
+    // A block has two words and one reading, so the loop goes by its number.
+    for k in 0..b {
+        x = step(x);
+        readings[k] = reading_of(words, truths, width, x, k);
     }
 }
 
@@ -77,13 +74,10 @@ pub(crate) fn sum_between(truths: &[i32], left: u64, right: u64) -> i64
     requires { Known truths.now }
     ensures { result ≡ between truths.now left right }
 {
-    let mut sum: i64 = 0;
-    let mut i = 0;
-    while i < truths.len() {
-        let truth = truths[i] as i64;
+    let mut sum = 0;
+    for (i, &truth) in truths.iter().enumerate() {
         let sign = holds(left, i) as i64 - holds(right, i) as i64;
-        sum += sign * truth;
-        i += 1;
+        sum += sign * i64::from(truth);
     }
     sum
 }

@@ -12,10 +12,8 @@ pub fn put_spaces(out: &mut [u8], at: usize, count: usize) -> usize
     ensures { Wrote out.old at (spaces count) out.new result }
 {
     let mut place = at;
-    let mut i: usize = 0;
-    while i < count {
-        place = put_byte(out, place, 32);
-        i += 1;
+    for _ in 0..count {
+        place = put_byte(out, place, b' ');
     }
     place
 }
@@ -25,9 +23,9 @@ pub fn put_decimals(out: &mut [u8], at: usize, n: u64) -> usize
     ensures { Wrote out.old at (two_decimals n) out.new result }
 {
     let whole_end = put_digits(out, at, n / 100);
-    let point_end = put_byte(out, whole_end, 46);
-    let tenth_end = put_byte(out, point_end, 48 + (n / 10 % 10) as u8);
-    put_byte(out, tenth_end, 48 + (n % 10) as u8)
+    let point_end = put_byte(out, whole_end, b'.');
+    let tenth_end = put_byte(out, point_end, b'0' + (n / 10 % 10) as u8);
+    put_byte(out, tenth_end, b'0' + (n % 10) as u8)
 }
 
 // The same of x, with a minus where it is below 0. The sign goes by x and not by its whole counts: -0.05 has none.
@@ -36,7 +34,7 @@ pub fn put_counts(out: &mut [u8], at: usize, x: i64) -> usize
 {
     let magnitude = size(x);
     if x < 0 {
-        let sign_end = put_byte(out, at, 45);
+        let sign_end = put_byte(out, at, b'-');
         put_decimals(out, sign_end, magnitude)
     } else {
         put_decimals(out, at, magnitude)

@@ -21,13 +21,8 @@ pub fn put_byte(out: &mut [u8], at: usize, byte: u8) -> usize
 {
     if at < out.len() {
         out[at] = byte;
-        return at + 1;
     }
-    if at < 18446744073709551615 {
-        at + 1
-    } else {
-        at
-    }
+    at.saturating_add(1)
 }
 
 // The bytes of a text, one after the other.
@@ -35,10 +30,8 @@ pub fn put_text(out: &mut [u8], at: usize, text: &[u8]) -> usize
     ensures { Wrote out.old at text.now out.new result }
 {
     let mut place = at;
-    let mut i: usize = 0;
-    while i < text.len() {
-        place = put_byte(out, place, text[i]);
-        i += 1;
+    for byte in text {
+        place = put_byte(out, place, *byte);
     }
     place
 }

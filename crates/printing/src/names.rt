@@ -11,7 +11,11 @@ fn hex_letter(digit: u8) -> u8
     requires { digit < 16 }
     ensures { result ≡ hex_letter digit }
 {
-    if digit < 10 { 48 + digit } else { 55 + digit }
+    if digit < 10 {
+        b'0' + digit
+    } else {
+        b'A' + (digit - 10)
+    }
 }
 
 // A byte in two digits of base 16.
@@ -28,16 +32,7 @@ pub fn put_hex(out: &mut [u8], at: usize, byte: u8) -> usize
 fn is_shown(byte: u8) -> bool
     ensures { result ≡ (ltb 32 byte && (ltb byte 127 && (not (eqb byte 35) && not (eqb byte 92)))) }
 {
-    if byte <= 32 {
-        return false;
-    }
-    if 127 <= byte {
-        return false;
-    }
-    if byte == 35 {
-        return false;
-    }
-    byte != 92
+    byte.is_ascii_graphic() && byte != b'#' && byte != b'\\'
 }
 
 // A byte of a name: itself, or in base 16.
@@ -57,10 +52,8 @@ pub fn put_escaped(out: &mut [u8], at: usize, name: &[u8]) -> usize
     ensures { Wrote out.old at (escaped name.now) out.new result }
 {
     let mut place = at;
-    let mut i: usize = 0;
-    while i < name.len() {
-        place = put_escaped_byte(out, place, name[i]);
-        i += 1;
+    for byte in name {
+        place = put_escaped_byte(out, place, *byte);
     }
     place
 }
@@ -70,13 +63,12 @@ pub fn put_escaped(out: &mut [u8], at: usize, name: &[u8]) -> usize
 fn trimmed_length(name: &[u8]) -> usize
     ensures { (result ≤ length name.now) × (take result name.now ≡ trimmed name.now) }
 {
-    let mut kept: usize = 0;
-    let mut i: usize = 0;
-    while i < name.len() {
-        if name[i] != 32 {
+    // A search from the end (`rposition`) has no lemma of the library; this loop proves with two.
+    let mut kept = 0;
+    for (i, byte) in name.iter().enumerate() {
+        if *byte != b' ' {
             kept = i + 1;
         }
-        i += 1;
     }
     kept
 }

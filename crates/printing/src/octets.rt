@@ -9,6 +9,7 @@ use crate::put_byte;
 pub fn put_bytes(out: &mut [u8], at: usize, count: usize, x: u64) -> usize
     ensures { Wrote out.old at (bytes_of count x) out.new result }
 {
+    // The highest byte is put by a call on the smaller number, so no loop counts places from the end.
     if count == 0 {
         return at;
     }
@@ -16,9 +17,9 @@ pub fn put_bytes(out: &mut [u8], at: usize, count: usize, x: u64) -> usize
     put_byte(out, next, (x % 256) as u8)
 }
 
-// The 64 bits of a signed number. A number below 0 is flipped, cast and flipped back, so that no step leaves its type.
+// The 64 bits of a signed number.
 pub fn bits(x: i64) -> u64
     ensures { result ≡ wrapped 64 x }
 {
-    if x < 0 { !((!x) as u64) } else { x as u64 }
+    x.cast_unsigned()
 }

@@ -10,19 +10,25 @@ pub struct Head {
     pub m: usize,
 }
 
-// How a call ends: it accepts, or refuses by the request's number at a place.
-#[derive(Clone, Copy)]
-pub enum Verdict {
-    Accepted,
-    Refused(u8, usize),
+// Why a call refuses: the request's number, and the place that it speaks of.
+#[derive(Clone, Copy, PartialEq, Eq)]
+pub struct Refusal {
+    pub number: u8,
+    pub place: usize,
 }
 
-// What stands at a place of a file: a field's body and the byte after it, or the number and place of its refusal.
-#[derive(Clone, Copy)]
-pub enum Field {
-    Body(usize, usize),
-    Unfit(u8, usize),
+// How a call ends: it accepts, or refuses.
+pub type Verdict = Result<(), Refusal>;
+
+// Where the body of a field of a file starts, and the byte after it.
+#[derive(Clone, Copy, PartialEq, Eq)]
+pub struct Body {
+    pub start: usize,
+    pub next: usize,
 }
+
+// What stands at a place of a file where a field is looked for.
+pub type Field = Result<Body, Refusal>;
 
 // The parameters of a balanced design, as the paper names them: l1 and l2 are its two lambdas.
 #[derive(Clone, Copy)]
@@ -54,11 +60,11 @@ pub struct Wide {
     pub low: u64,
 }
 
-// The spread as an f64 with its degrees of freedom, or none.
+// A spread as an f64 with its degrees of freedom. A job without any has none.
 #[derive(Clone, Copy)]
-pub enum Spread {
-    Of(f64, u64),
-    None,
+pub struct Spread {
+    pub value: f64,
+    pub freedom: u64,
 }
 
 // What a spread is made from: Q, v times beta, the degrees of freedom, and the whole hundredths.
@@ -68,7 +74,7 @@ pub struct Spreading {
     pub vbeta: u64,
     pub freedom: u64,
     pub hundredths: u64,
-    pub spread: Spread,
+    pub spread: Option<Spread>,
 }
 
 // The answer of a call that judges a design.
@@ -100,18 +106,18 @@ pub struct ObjectValue {
     pub value: Value,
 }
 
-// The standard uncertainty of a value: whole hundredths of a count with their f64, or that none is stated.
+// The standard uncertainty of a value: whole hundredths of a count with their f64.
 #[derive(Clone, Copy)]
-pub enum Uncertainty {
-    Stated(u64, f64),
-    Unstated,
+pub struct Uncertainty {
+    pub hundredths: u64,
+    pub value: f64,
 }
 
-// The answer of a call for the standard uncertainty of one object.
+// The answer of a call for the standard uncertainty of one object, where one is stated.
 #[derive(Clone, Copy)]
 pub struct ObjectUncertainty {
     pub verdict: Verdict,
-    pub uncertainty: Uncertainty,
+    pub uncertainty: Option<Uncertainty>,
 }
 
 // The answer of a call for the deviation of one block.
@@ -224,44 +230,30 @@ pub struct GroupedSet {
     pub parameters: GroupParameters,
 }
 
-// The answer of a call that checks a sheet: it agrees; the first object whose claim differs, v where only the spread does; or the number and place of the
-// refusal.
-#[derive(Clone, Copy)]
-pub enum Checked {
+// What a sheet comes to that can be checked: it agrees; or the first object whose claim differs, v where only the spread does.
+#[derive(Clone, Copy, PartialEq, Eq)]
+pub enum Agreement {
     Agrees,
     Differs(usize),
-    Unchecked(u8, usize),
 }
 
-// What a word of a sheet's text says as a number: whether it is one, and which; 0 where it is none.
-#[derive(Clone, Copy)]
-pub struct Numeral {
-    pub read: bool,
-    pub number: u64,
-}
+// The answer of a call that checks a sheet.
+pub type Checked = Result<Agreement, Refusal>;
 
-// The same of a number with a sign.
-#[derive(Clone, Copy)]
-pub struct SignedNumeral {
-    pub read: bool,
-    pub number: i64,
-}
-
-// What a sheet's text claims of the spread: whether it says anything, whether that is `none`, the degrees of freedom, and the whole hundredths.
+// What a sheet's text claims of the spread: the degrees of freedom, and the whole hundredths, or that there are none.
 #[derive(Clone, Copy)]
 pub struct SheetSpread {
-    pub read: bool,
-    pub none: bool,
     pub freedom: u64,
-    pub hundredths: u64,
+    pub hundredths: Option<u64>,
 }
 
-// What was read of a sheet's text: its first line that cannot be read, counted from 1, or 0; how many claims there are; the spread.
+// What was read of a sheet's text: its first line that cannot be read, counted from 1, if there is one; how many claims there are; what it claims of the
+// spread.
 #[derive(Clone, Copy)]
 pub struct SheetRead {
-    pub line: usize,
+    pub line: Option<usize>,
     pub count: usize,
-    pub spread: SheetSpread,
+    pub spread: Option<SheetSpread>,
 }
 
 // The answer of a call that pools the spread of several jobs: beside the verdict the index of the job that it speaks of, 0 where it speaks of none.

@@ -1,2 +1,2 @@
--- The laws of one turn of a search through a text.
-pub mod Steps
+-- The laws of a text that is cut.
+pub mod Cuts

@@ -1,134 +1,96 @@
 // The lines of a sheet: what a `value` line and a `spread` line claim, and what is read with each line.
 ghost use Rattle.std.specs.Prelude.{◌≡◌, ◌≤◌};
-ghost use Rattle.meaning.specs.SheetText.{no_hundredths, no_claim, claim_of, spread_of, unread, with_value, with_spread, with_line, added, put};
+ghost use Rattle.meaning.specs.SheetText.{claim_of, spread_of, unread, with_value, with_spread, with_line, added, put};
 
 use crate::pieces::count;
 use crate::words::{word_is, word_number, word_signed};
-use records::{SheetRead, SheetSpread, SignedNumeral};
-
-// What is said of a line that claims nothing of an object.
-fn no_hundredths() -> SignedNumeral
-    ensures { result ≡ no_hundredths }
-{
-    SignedNumeral {
-        read: false,
-        number: 0,
-    }
-}
+use records::{SheetRead, SheetSpread};
 
 // What a `value` line claims, where it is to name that object.
-fn claim(line: &[u8], object: usize) -> SignedNumeral
+#[tactic(auto, unfolding(meaning::specs::SheetText::claim_of))]
+fn claim(line: &[u8], object: usize) -> Option<i64>
     ensures { result ≡ claim_of object line.now }
 {
-    if count(line, 32) != 4 {
-        return no_hundredths();
+    if count(line, b' ') != 4 {
+        return None;
     }
-    let named = word_number(line, 1);
-    if !named.read {
-        return no_hundredths();
-    }
-    if named.number != object as u64 {
-        return no_hundredths();
+    if word_number(line, 1)? != object as u64 {
+        return None;
     }
     word_signed(line, 4)
 }
 
-// What is said of a text that claims nothing of the spread.
-pub(crate) fn no_claim() -> SheetSpread
-    ensures { result ≡ no_claim }
-{
-    SheetSpread {
-        read: false,
-        none: false,
-        freedom: 0,
-        hundredths: 0,
-    }
-}
-
 // What a `spread` line claims.
-fn spread(line: &[u8]) -> SheetSpread
+#[tactic(auto, unfolding(meaning::specs::SheetText::spread_of, meaning::specs::Text::ascii))]
+fn spread(line: &[u8]) -> Option<SheetSpread>
     ensures { result ≡ spread_of line.now }
 {
-    if count(line, 32) != 4 {
-        return no_claim();
+    if count(line, b' ') != 4 {
+        return None;
     }
-    let freedom = word_number(line, 3);
-    if !freedom.read {
-        return no_claim();
-    }
+    let freedom = word_number(line, 3)?;
     if word_is(line, 4, b"none") {
-        return SheetSpread {
-            read: true,
-            none: true,
-            freedom: freedom.number,
-            hundredths: 0,
-        };
+        return Some(SheetSpread {
+            freedom,
+            hundredths: None,
+        });
     }
-    let hundredths = word_number(line, 4);
-    if !hundredths.read {
-        return no_claim();
-    }
-    SheetSpread {
-        read: true,
-        none: false,
-        freedom: freedom.number,
-        hundredths: hundredths.number,
-    }
+    let hundredths = word_number(line, 4)?;
+    Some(SheetSpread {
+        freedom,
+        hundredths: Some(hundredths),
+    })
 }
 
 // What was read, where line k cannot be.
 pub(crate) fn unread(k: usize, read: SheetRead) -> SheetRead
     ensures { result ≡ unread k read }
 {
-    let spread = read.spread;
     SheetRead {
-        line: k,
-        count: read.count,
-        spread,
+        line: Some(k),
+        ..read
     }
 }
 
 // What is read with a `value` line.
+#[tactic(auto, unfolding(meaning::specs::SheetText::with_value))]
 fn with_value(k: usize, line: &[u8], read: SheetRead) -> SheetRead
     requires { read.count ≤ 65536 }
     ensures { result ≡ with_value k line.now read }
 {
-    let claimed = claim(line, read.count);
-    if !claimed.read {
+    if claim(line, read.count).is_none() {
         return unread(k, read);
     }
-    let spread = read.spread;
     SheetRead {
-        line: 0,
+        line: None,
         count: read.count + 1,
-        spread,
+        ..read
     }
 }
 
 // What is read with a `spread` line, of which there is one.
+#[tactic(auto, unfolding(meaning::specs::SheetText::with_spread))]
 fn with_spread(k: usize, line: &[u8], read: SheetRead) -> SheetRead
     ensures { result ≡ with_spread k line.now read }
 {
-    if read.spread.read {
-        return unread(k, read);
-    }
     let claimed = spread(line);
-    if !claimed.read {
+    if read.spread.is_some() || claimed.is_none() {
         return unread(k, read);
     }
     SheetRead {
-        line: 0,
-        count: read.count,
+        line: None,
         spread: claimed,
+        ..read
     }
 }
 
 // What is read with line k; after a line that cannot be read, nothing.
+#[tactic(auto, unfolding(meaning::specs::SheetText::with_line, meaning::specs::Text::ascii))]
 pub(crate) fn with_line(k: usize, line: &[u8], read: SheetRead) -> SheetRead
     requires { read.count ≤ 65536 }
     ensures { result ≡ with_line k line.now read }
 {
-    if read.line != 0 {
+    if read.line.is_some() {
         return read;
     }
     if word_is(line, 0, b"value") {
@@ -141,22 +103,17 @@ pub(crate) fn with_line(k: usize, line: &[u8], read: SheetRead) -> SheetRead
 }
 
 // Puts the claim that a line adds behind those that were read, where there is room.
+#[tactic(auto, unfolding(meaning::specs::SheetText::added, meaning::specs::Text::ascii))]
 pub(crate) fn put_claim(line: &[u8], read: SheetRead, claims: &mut [i64])
     ensures { claims.new ≡ put (added line.now read) read.count claims.old }
 {
-    if read.line != 0 {
-        return;
-    }
-    if !word_is(line, 0, b"value") {
+    if read.line.is_some() || !word_is(line, 0, b"value") {
         return;
     }
     let at = read.count;
-    let claimed = claim(line, at);
-    if !claimed.read {
-        return;
-    }
-    let number = claimed.number;
-    if at < claims.len() {
-        claims[at] = number;
+    if let Some(claimed) = claim(line, at) {
+        if at < claims.len() {
+            claims[at] = claimed;
+        }
     }
 }

@@ -1,9 +1,9 @@
 // A sheet's text, line after line.
 ghost use Rattle.std.specs.Prelude.{◌≡◌, ◌≤◌, length};
-ghost use Rattle.meaning.specs.SheetText.{added, put, with_line, nothing_read, read_to, claims_to, ended, laid, sheet_of, claims_of};
+ghost use Rattle.meaning.specs.SheetText.{added, put, with_line, nothing_read, read_to, claims_to, ended, laid, lines_of, sheet_of, claims_of};
 
-use crate::lines::{no_claim, put_claim, unread, with_line};
-use crate::pieces::{count, next_piece, piece_end};
+use crate::lines::{put_claim, unread, with_line};
+use crate::pieces::count;
 use records::SheetRead;
 
 // What is read of a sheet's text, and its claims at the front of `claims`, as far as that goes.
@@ -12,39 +12,33 @@ pub fn read_sheet(bytes: &[u8], claims: &mut [i64]) -> SheetRead
     ensures claims_after { claims.new ≡ laid (claims_of bytes.now) claims.old }
 {
     if 65536 < bytes.len() {
-        return nothing_read(1);
+        return nothing_read(Some(1));
     }
-    let lines = count(bytes, 10) + 1;
-    let read = read_lines(bytes, lines, claims);
+    let lines = count(bytes, b'\n') + 1;
+    let read = read_lines(bytes, claims);
     ended(lines, read)
 }
 
-// Nothing read.
-fn nothing_read(k: usize) -> SheetRead
-    ensures { result ≡ nothing_read k }
+// Nothing read, and the line that cannot be, if there is one.
+fn nothing_read(line: Option<usize>) -> SheetRead
+    ensures { result ≡ nothing_read line }
 {
-    let spread = no_claim();
     SheetRead {
-        line: k,
+        line,
         count: 0,
-        spread,
+        spread: None,
     }
 }
 
-// The first lines of a text.
-fn read_lines(bytes: &[u8], lines: usize, claims: &mut [i64]) -> SheetRead
-    requires { lines ≤ 65537 }
-    ensures value { result ≡ read_to lines bytes.now }
-    ensures claims_after { claims.new ≡ laid (claims_to lines bytes.now) claims.old }
+// The lines of a text, one after the other.
+fn read_lines(bytes: &[u8], claims: &mut [i64]) -> SheetRead
+    requires { length bytes.now ≤ 65536 }
+    ensures value { result ≡ read_to (lines_of bytes.now) bytes.now }
+    ensures claims_after { claims.new ≡ laid (claims_to (lines_of bytes.now) bytes.now) claims.old }
 {
-    let mut read = nothing_read(0);
-    let mut at: usize = 0;
-    let mut k: usize = 0;
-    while k < lines {
-        let end = piece_end(bytes, at, 10);
-        read = read_line(k + 1, &bytes[at..end], read, claims);
-        at = next_piece(bytes, at, 10);
-        k += 1;
+    let mut read = nothing_read(None);
+    for (k, line) in bytes.split(|byte| *byte == b'\n').enumerate() {
+        read = read_line(k + 1, line, read, claims);
     }
     read
 }
@@ -60,13 +54,11 @@ fn read_line(k: usize, line: &[u8], read: SheetRead, claims: &mut [i64]) -> Shee
 }
 
 // A text without a spread line cannot be read at its last line.
+#[tactic(auto, unfolding(meaning::specs::SheetText::ended))]
 fn ended(lines: usize, read: SheetRead) -> SheetRead
     ensures { result ≡ ended lines read }
 {
-    if read.line != 0 {
-        return read;
-    }
-    if read.spread.read {
+    if read.line.is_some() || read.spread.is_some() {
         return read;
     }
     unread(lines, read)

@@ -1,10 +1,9 @@
 -- What is told of a verdict with an index says all three numbers, each by itself; and it is 0 exactly where the verdict accepts. Assumes nothing.
+use Rattle.std.proofs.Common.{Ok, Err}
 use Prim.Native.Nat.{ℕ, ◌/◌, ◌%◌, ◌<◌}
 use mathlib.Core.Path.{◌≡◌, refl}
 use native.Mathlib.Omega.{arith}
-use Rattle.records.specs.declared.Verdict.{Verdict}
-use Rattle.records.specs.declared.Verdict.TheVariants.{Accepted, Refused}
-use Rattle.meaning.specs.Refusals.{accepted, refused}
+use Rattle.meaning.specs.Refusals.{Verdict, accepted, refused}
 use Rattle.slots.specs.Pools.{told_at}
 use Rattle.slots.proofs.Numbered.{Numbered}
 
@@ -22,5 +21,5 @@ indexed_place k i at l m n = omega arith
 
 -- it accepts where what is told is 0
 pub indexed_zero : (v : Verdict) (i : ℕ) → Numbered v → told_at v i ≡ 0 → v ≡ accepted
-indexed_zero Accepted i n e = refl
-indexed_zero (Refused k at) i n e = n.unless (omega arith)
+indexed_zero (Ok done) i n e = refl
+indexed_zero (Err why) i n e = n.unless (omega arith)

@@ -1,11 +1,10 @@
 -- What is told says all that a verdict says: its number, and its place below 2^48; and it is 0 exactly where the verdict accepts. Assumes nothing.
+use Rattle.std.proofs.Common.{Ok, Err}
 use Prim.Native.Nat.{ℕ, suc, ◌/◌, ◌%◌, ◌<◌}
 use mathlib.Core.Path.{◌≡◌, refl}
 use mathlib.Core.Bool.{Bool, true, false}
 use native.Mathlib.Omega.{arith}
-use Rattle.records.specs.declared.Verdict.{Verdict}
-use Rattle.records.specs.declared.Verdict.TheVariants.{Accepted, Refused}
-use Rattle.meaning.specs.Refusals.{accepted, number, place, test, ◌⨾◌}
+use Rattle.meaning.specs.Refusals.{Verdict, accepted, number, place, test, ◌⨾◌}
 use Rattle.slots.specs.Told.{told}
 
 -- the number is in the lowest eight bits
@@ -34,5 +33,5 @@ numbered_test false k at = record { unless = λ e. absurd (omega arith) }
 
 -- and so is one such after another
 pub numbered_then : {a b : Verdict} → Numbered a → Numbered b → Numbered (a ⨾ b)
-numbered_then {a = Accepted} m n = n
-numbered_then {a = Refused k at} m n = m
+numbered_then {a = Ok done} m n = n
+numbered_then {a = Err why} m n = m

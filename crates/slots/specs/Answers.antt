@@ -2,7 +2,6 @@
 -- and what is lent after, under it. Signed slots stand before unsigned ones, and those before slots of f64. Assumes nothing.
 use Rattle.std.specs.Prelude.{ℕ, List, [], ◌∷◌, length, ℤ, Float}
 use Rattle.records.specs.declared.BlockDeviation.{BlockDeviation}
-use Rattle.records.specs.declared.Field.{Field}
 use Rattle.records.specs.declared.JobRead.{JobRead}
 use Rattle.records.specs.declared.JobSpread.{JobSpread}
 use Rattle.records.specs.declared.JobWritten.{JobWritten}
@@ -14,10 +13,9 @@ use Rattle.records.specs.declared.ObjectValue.{ObjectValue}
 use Rattle.records.specs.declared.SecondRead.{SecondRead}
 use Rattle.records.specs.declared.Solved.{Solved}
 use Rattle.records.specs.declared.SquareSum.{SquareSum}
-use Rattle.records.specs.declared.Verdict.{Verdict}
-use Rattle.meaning.specs.Refusals.{◌⨾◌, room}
+use Rattle.meaning.specs.Refusals.{Verdict, ◌⨾◌, room}
 use Rattle.meaning.specs.Publishing.{spread_value}
-use Rattle.meaning.specs.File.{field_says, field_start, field_next}
+use Rattle.meaning.specs.File.{Field, field_says, field_start, field_next}
 use Rattle.slots.specs.Laid.{laid, laid_table}
 use Rattle.slots.specs.Slots.{parameter_slots, stated_slots, stated_value, spreading_slots, solved_slots, read_slots, second_slots}
 

@@ -4,8 +4,7 @@ use Rattle.records.specs.declared.GroupCounts.{GroupCounts}
 use Rattle.records.specs.declared.GroupParameters.{GroupParameters}
 use Rattle.records.specs.declared.Grouped.{Grouped}
 use Rattle.records.specs.declared.GroupedSet.{GroupedSet}
-use Rattle.records.specs.declared.Verdict.{Verdict}
-use Rattle.meaning.specs.Refusals.{◌⨾◌, room}
+use Rattle.meaning.specs.Refusals.{Verdict, ◌⨾◌, room}
 use Rattle.slots.specs.Laid.{laid}
 
 -- four counts: company and opposition within groups, company and opposition between them

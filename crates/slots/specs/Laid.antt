@@ -1,8 +1,8 @@
 -- Lent slots after a call. An accepting call has its slots at the front of what is lent, and later ones stay; a refusal leaves all as it was. Assumes nothing.
 use Rattle.std.specs.Prelude.{ℕ, ◌/◌, ◌%◌, List, [], ◌∷◌}
 use Rattle.algebra.specs.Tables.{entry}
-use Rattle.records.specs.declared.Verdict.{Verdict}
 use Rattle.meaning.specs.Calls.{given, written}
+use Rattle.meaning.specs.Refusals.{Verdict}
 
 -- slots over the front of what is lent, as far as it goes
 unfoldable pub onto : {A : Type 0} → List A → List A → List A

@@ -1,18 +1,16 @@
 -- How the answer of a pool is handed over: the index of the job that a refusal speaks of stands beside its number. Assumes nothing.
-use Rattle.std.specs.Prelude.{ℕ, ◌%◌, ◌^◌, List, [], ◌∷◌, Float, length}
-use Rattle.records.specs.declared.Verdict.{Verdict}
-use Rattle.records.specs.declared.Verdict.TheVariants.{Accepted, Refused}
+use Rattle.std.specs.Prelude.{Ok, Err, ℕ, ◌%◌, ◌^◌, List, [], ◌∷◌, Float, length}
 use Rattle.records.specs.declared.Pooled.{Pooled}
 use Rattle.meaning.specs.Publishing.{spread_value}
-use Rattle.meaning.specs.Refusals.{◌⨾◌, room}
+use Rattle.meaning.specs.Refusals.{Verdict, ◌⨾◌, room}
 use Rattle.slots.specs.Told.{coded}
 use Rattle.slots.specs.Laid.{laid}
 use Rattle.slots.specs.Slots.{spreading_slots}
 
 -- a verdict with an index as one number, 0 where it accepts; an index takes 8 bits, and no pool has more than 64 jobs
 abbrev pub told_at : Verdict → ℕ → ℕ
-told_at Accepted index = 0
-told_at (Refused number place) index = coded number (index % 2 ^ 8) place
+told_at (Ok done) index = 0
+told_at (Err why) index = coded why.number (index % 2 ^ 8) why.place
 
 -- a pooled spread: Q high, Q low, v·beta, f, hundredths, whether there is a spread; the spread, 0.0 for none
 module _ (p : Pooled) (answer : List ℕ) (real : List Float) where

@@ -1,11 +1,9 @@
 -- The slots of each answer, in their order. Assumes nothing.
-use Rattle.std.specs.Prelude.{ℕ, List, [], ◌∷◌, Float}
+use Rattle.std.specs.Prelude.{Some, Option, None, ℕ, List, [], ◌∷◌, Float}
 use Rattle.records.specs.declared.Parameters.{Parameters}
 use Rattle.records.specs.declared.Spread.{Spread}
-use Rattle.records.specs.declared.Spread.TheVariants.{Of, None}
 use Rattle.records.specs.declared.Spreading.{Spreading}
 use Rattle.records.specs.declared.Uncertainty.{Uncertainty}
-use Rattle.records.specs.declared.Uncertainty.TheVariants.{Stated, Unstated}
 use Rattle.meaning.specs.Publishing.{float_zero}
 use Rattle.records.specs.declared.Solved.{Solved}
 use Rattle.records.specs.declared.JobRead.{JobRead}
@@ -16,18 +14,18 @@ abbrev pub parameter_slots : Parameters → List ℕ
 parameter_slots p = p.v ∷ p.b ∷ p.r ∷ p.p ∷ p.l1 ∷ p.l2 ∷ []
 
 -- 1 where there is a spread, and 0 where there is none
-abbrev pub has_spread : Spread → ℕ
-has_spread (Of x f) = 1
+abbrev pub has_spread : Option Spread → ℕ
+has_spread (Some spread) = 1
 has_spread None = 0
 
 -- a standard uncertainty: its hundredths, 0 where none is stated, and 1 where one is, else 0; its f64, 0.0 where none is
-abbrev pub stated_slots : Uncertainty → List ℕ
-stated_slots (Stated u x) = u ∷ 1 ∷ []
-stated_slots Unstated = 0 ∷ 0 ∷ []
+abbrev pub stated_slots : Option Uncertainty → List ℕ
+stated_slots (Some u) = u.hundredths ∷ 1 ∷ []
+stated_slots None = 0 ∷ 0 ∷ []
 
-abbrev pub stated_value : Uncertainty → Float
-stated_value (Stated u x) = x
-stated_value Unstated = float_zero
+abbrev pub stated_value : Option Uncertainty → Float
+stated_value (Some u) = u.value
+stated_value None = float_zero
 
 -- what a spread is made from: Q in two words, high first, v·beta, f, hundredths, whether there is a spread
 abbrev pub spreading_slots : Spreading → List ℕ

@@ -1,7 +1,6 @@
 -- What a call from C returns: its verdict in one number of 64 bits. Assumes nothing.
 use Rattle.std.specs.Prelude.{ℕ, ◌+◌, ◌*◌, ◌%◌, ◌^◌}
-use Rattle.records.specs.declared.Verdict.{Verdict}
-use Rattle.meaning.specs.Refusals.{number, place}
+use Rattle.meaning.specs.Refusals.{Verdict, number, place}
 
 -- a refusal as one number: its number in the lowest 8 bits, an index in the next 8, and its place in the other 48, which a place of the caller's own may exceed
 abbrev pub coded : ℕ → ℕ → ℕ → ℕ

@@ -23,15 +23,13 @@ pub(crate) fn parameter_slots(parameters: Parameters) -> [u64; 6]
 pub(crate) fn spreading_slots(spreading: Spreading) -> [u64; 6]
     ensures { result ≡ spreading_slots spreading }
 {
-    let spread = spreading.spread;
-    let q = spreading.q;
     [
-        q.high,
-        q.low,
+        spreading.q.high,
+        spreading.q.low,
         spreading.vbeta,
         spreading.freedom,
         spreading.hundredths,
-        has_spread(spread),
+        has_spread(spreading.spread),
     ]
 }
 
@@ -41,8 +39,6 @@ pub(crate) fn solved_slots(solved: Solved) -> [u64; 13]
 {
     let design = solved.parameters;
     let measured = solved.spreading;
-    let spread = measured.spread;
-    let q = measured.q;
     [
         design.v,
         design.b,
@@ -51,12 +47,12 @@ pub(crate) fn solved_slots(solved: Solved) -> [u64; 13]
         design.l1,
         design.l2,
         solved.denominator,
-        q.high,
-        q.low,
+        measured.q.high,
+        measured.q.low,
         measured.vbeta,
         measured.freedom,
         measured.hundredths,
-        has_spread(spread),
+        has_spread(measured.spread),
     ]
 }
 
@@ -95,41 +91,32 @@ pub(crate) fn second_slots(read: SecondRead) -> [u64; 8]
 }
 
 // The f64 of a spread, 0.0 where there is none.
-pub(crate) fn spread_value(spread: Spread) -> f64
+pub(crate) fn spread_value(spread: Option<Spread>) -> f64
     ensures { result ≡ spread_value spread }
 {
-    match spread {
-        Spread::Of(value, _) => value,
-        Spread::None => 0.0,
-    }
+    spread.map_or(0.0, |stated| stated.value)
 }
 
 // A standard uncertainty: its hundredths, and 1 where it is stated, else 0 and 0.
-pub(crate) fn stated_slots(uncertainty: Uncertainty) -> [u64; 2]
+pub(crate) fn stated_slots(uncertainty: Option<Uncertainty>) -> [u64; 2]
     ensures { result ≡ stated_slots uncertainty }
 {
     match uncertainty {
-        Uncertainty::Stated(hundredths, _) => [hundredths, 1],
-        Uncertainty::Unstated => [0, 0],
+        Some(Uncertainty { hundredths, .. }) => [hundredths, 1],
+        None => [0, 0],
     }
 }
 
 // Its f64, 0.0 where it is not stated.
-pub(crate) fn stated_value(uncertainty: Uncertainty) -> f64
+pub(crate) fn stated_value(uncertainty: Option<Uncertainty>) -> f64
     ensures { result ≡ stated_value uncertainty }
 {
-    match uncertainty {
-        Uncertainty::Stated(_, value) => value,
-        Uncertainty::Unstated => 0.0,
-    }
+    uncertainty.map_or(0.0, |stated| stated.value)
 }
 
 // 1 where there is a spread, and 0 where there is none.
-fn has_spread(spread: Spread) -> u64
+fn has_spread(spread: Option<Spread>) -> u64
     ensures { result ≡ has_spread spread }
 {
-    match spread {
-        Spread::Of(_, _) => 1,
-        Spread::None => 0,
-    }
+    u64::from(spread.is_some())
 }

@@ -10,19 +10,18 @@ use crate::telling::told;
 use records::{Judged, Verdict};
 
 // A judgement.
+#[tactic(auto, unfolding(crate::specs::Answers::judged_call))]
 pub fn lay_judged(judged: Judged, answer: &mut [u64]) -> u64
     ensures value { result ≡ told (judged_call judged answer.old) }
     ensures answer_after { answer.new ≡ judged_laid judged answer.old }
 {
-    let tested = judged.verdict;
-    let parameters = judged.parameters;
-    let verdict = with_room(tested, answer.len(), 6);
-    let slots = parameter_slots(parameters);
-    lay(verdict, &slots, answer);
+    let verdict = with_room(judged.verdict, answer.len(), 6);
+    lay(verdict, &parameter_slots(judged.parameters), answer);
     told(verdict)
 }
 
 // A pair table, under the verdict of its block list.
+#[tactic(auto, unfolding(crate::specs::Answers::table_call))]
 pub fn lay_table(tested: Verdict, table: &[[u64; 50]; 50], lent: &mut [u64]) -> u64
     ensures value { result ≡ told (table_call tested lent.old) }
     ensures lent_after { lent.new ≡ table_words tested table.now lent.old }

@@ -9,28 +9,24 @@ use crate::telling::told;
 use records::{GroupCounts, GroupParameters, Grouped, GroupedSet};
 
 // A verdict on blocks in groups.
+#[tactic(auto, unfolding(crate::specs::Groups::grouped_call))]
 pub fn lay_grouped(grouped: Grouped, answer: &mut [u64]) -> u64
     ensures value { result ≡ told (grouped_call grouped answer.old) }
     ensures answer_after { answer.new ≡ grouped_laid grouped answer.old }
 {
-    let tested = grouped.verdict;
-    let counts = grouped.counts;
-    let verdict = with_room(tested, answer.len(), 4);
-    let slots = count_slots(counts);
-    lay(verdict, &slots, answer);
+    let verdict = with_room(grouped.verdict, answer.len(), 4);
+    lay(verdict, &count_slots(grouped.counts), answer);
     told(verdict)
 }
 
 // A grouped set.
+#[tactic(auto, unfolding(crate::specs::Groups::group_set_call))]
 pub fn lay_group_set(set: GroupedSet, answer: &mut [u64]) -> u64
     ensures value { result ≡ told (group_set_call set answer.old) }
     ensures answer_after { answer.new ≡ group_set_laid set answer.old }
 {
-    let tested = set.verdict;
-    let parameters = set.parameters;
-    let verdict = with_room(tested, answer.len(), 8);
-    let slots = group_slots(parameters);
-    lay(verdict, &slots, answer);
+    let verdict = with_room(set.verdict, answer.len(), 8);
+    lay(verdict, &group_slots(set.parameters), answer);
     told(verdict)
 }
 

@@ -4,48 +4,13 @@ ghost use Rattle.slots.specs.Laid.{laid, laid_table};
 
 use records::Verdict;
 
-// Unsigned slots.
-pub(crate) fn lay(verdict: Verdict, slots: &[u64], lent: &mut [u64])
+// Slots of one kind.
+pub(crate) fn lay<T: Copy>(verdict: Verdict, slots: &[T], lent: &mut [T])
     ensures { lent.new ≡ laid verdict slots.now lent.old }
 {
-    if let Verdict::Refused(_, _) = verdict {
-        return;
-    }
-    for i in 0..slots.len() {
-        if lent.len() <= i {
-            return;
-        }
-        lent[i] = slots[i];
-    }
-}
-
-// Signed slots.
-pub(crate) fn lay_signed(verdict: Verdict, slots: &[i64], lent: &mut [i64])
-    ensures { lent.new ≡ laid verdict slots.now lent.old }
-{
-    if let Verdict::Refused(_, _) = verdict {
-        return;
-    }
-    for i in 0..slots.len() {
-        if lent.len() <= i {
-            return;
-        }
-        lent[i] = slots[i];
-    }
-}
-
-// Slots of f64.
-pub(crate) fn lay_real(verdict: Verdict, slots: &[f64], lent: &mut [f64])
-    ensures { lent.new ≡ laid verdict slots.now lent.old }
-{
-    if let Verdict::Refused(_, _) = verdict {
-        return;
-    }
-    for i in 0..slots.len() {
-        if lent.len() <= i {
-            return;
-        }
-        lent[i] = slots[i];
+    if verdict.is_ok() {
+        let count = slots.len().min(lent.len());
+        lent[..count].copy_from_slice(&slots[..count]);
     }
 }
 
@@ -53,13 +18,10 @@ pub(crate) fn lay_real(verdict: Verdict, slots: &[f64], lent: &mut [f64])
 pub(crate) fn lay_entries(verdict: Verdict, table: &[[u64; 50]; 50], lent: &mut [u64])
     ensures { lent.new ≡ laid_table verdict table.now lent.old }
 {
-    if let Verdict::Refused(_, _) = verdict {
-        return;
-    }
-    for k in 0..2500 {
-        if lent.len() <= k {
-            return;
+    // Not `lay` of the flattened table: what that hands back says nothing of how long each row is.
+    if verdict.is_ok() {
+        for k in 0..lent.len().min(2500) {
+            lent[k] = table[k / 50][k % 50];
         }
-        lent[k] = table[k / 50][k % 50];
     }
 }

@@ -3,25 +3,25 @@ ghost use Rattle.std.specs.Prelude.{◌≡◌};
 ghost use Rattle.meaning.specs.Refusals.{◌⨾◌, room};
 ghost use Rattle.slots.specs.Answers.{solved_room};
 
-use records::Verdict;
+use records::{Refusal, Verdict};
 
 // A verdict, and where it accepts the test that a lent buffer has the room that is wanted.
 pub fn with_room(verdict: Verdict, length: usize, want: usize) -> Verdict
     ensures { result ≡ verdict ⨾ room length want }
 {
-    if let Verdict::Refused(number, place) = verdict {
-        return Verdict::Refused(number, place);
-    }
+    verdict?;
     if length < want {
-        return Verdict::Refused(10, 0);
+        return Err(Refusal {
+            number: 10,
+            place: 0,
+        });
     }
-    Verdict::Accepted
+    Ok(())
 }
 
 // Whether there are slots for a job worked out: a call that writes into rooms too asks before it does.
 pub fn solved_room(answer: usize, real: usize) -> Verdict
     ensures { result ≡ solved_room answer real }
 {
-    let answer_tested = with_room(Verdict::Accepted, answer, 13);
-    with_room(answer_tested, real, 1)
+    with_room(with_room(Ok(()), answer, 13), real, 1)
 }

@@ -1,14 +1,12 @@
 // What checking a sheet answers: whether it agrees, and where it differs.
-ghost use Rattle.std.specs.Prelude.{◌≡◌, [], ◌∷◌, length};
-ghost use Rattle.meaning.specs.Refusals.{room};
+ghost use Rattle.std.specs.Prelude.{◌≡◌};
 ghost use Rattle.slots.specs.Told.{told};
-ghost use Rattle.slots.specs.Laid.{laid};
-ghost use Rattle.slots.specs.Sheets.{checked_call, checked_laid};
+ghost use Rattle.slots.specs.Sheets.{checked_slots, checked_call, checked_laid};
 
 use crate::laying::lay;
 use crate::rooms::with_room;
 use crate::telling::told;
-use records::{Checked, Verdict};
+use records::{Agreement, Checked};
 
 // A sheet that was checked: a difference is laid, and only a refusal is told.
 #[tactic(auto, unfolding(crate::specs::Sheets::checked_call))]
@@ -16,20 +14,18 @@ pub fn lay_checked(checked: Checked, answer: &mut [u64]) -> u64
     ensures value { result ≡ told (checked_call checked answer.old) }
     ensures answer_after { answer.new ≡ checked_laid checked answer.old }
 {
-    match checked {
-        Checked::Agrees => lay_found(1, 0, answer),
-        Checked::Differs(at) => lay_found(0, at as u64, answer),
-        Checked::Unchecked(number, place) => told(Verdict::Refused(number, place)),
-    }
+    let verdict = with_room(checked.and(Ok(())), answer.len(), 2);
+    lay(verdict, &checked_slots(checked), answer);
+    told(verdict)
 }
 
-// Two slots, where there is room for them.
-fn lay_found(agrees: u64, at: u64, answer: &mut [u64]) -> u64
-    ensures value { result ≡ told (room (length answer.old) 2) }
-    ensures answer_after { answer.new ≡ laid (room (length answer.old) 2) (agrees ∷ at ∷ []) answer.old }
+// Whether it agrees, and where it differs.
+fn checked_slots(checked: Checked) -> [u64; 2]
+    ensures { result ≡ checked_slots checked }
 {
-    let verdict = with_room(Verdict::Accepted, answer.len(), 2);
-    let slots = [agrees, at];
-    lay(verdict, &slots, answer);
-    told(verdict)
+    match checked {
+        Ok(Agreement::Agrees) => [1, 0],
+        Ok(Agreement::Differs(at)) => [0, at as u64],
+        Err(_) => [0, 0],
+    }
 }

@@ -3,43 +3,30 @@
 
 mod system;
 
-use crate::system::{argument, argument_count, open, read_full, say_unopened, write_output};
+use crate::system::{arguments, open, read_at_most, say_unopened, write_output};
+use std::alloc::AllocError;
 
-fn main(rt: HostRuntime) {
-    run_all(&rt, argument_count(&rt));
-}
-
-// One file for each argument after the program's name.
-fn run_all(rt: &HostRuntime, count: usize) {
-    let mut i = 1;
-    while i < count {
-        run_one(rt, i);
-        i += 1;
+fn main(rt: HostRuntime) -> Result<(), AllocError> {
+    let words = arguments(&rt)?;
+    for name in words.iter().skip(1) {
+        print_file(&rt, name)?;
     }
+    Ok(())
 }
 
-// Reads the file that argument `i` names, up to 8,192 bytes, and prints it.
-fn run_one(rt: &HostRuntime, i: usize) {
-    let mut name = [0u8; 4096];
-    let length = argument(rt, i, &mut name);
-    let mut input = [0u8; 8192];
-    let n = match open(rt, &name[..length]) {
-        Ok(mut file) => read_full(&mut file, &mut input),
-        Err(error) => {
-            say_unopened(rt, &name[..length], error);
-            return;
-        }
+// Reads the file of a name, up to 8,192 bytes, and prints both. 64 KiB are room for every listing.
+fn print_file(rt: &HostRuntime, name: &[u8]) -> Result<(), AllocError> {
+    let file = match open(rt, name) {
+        Ok(file) => file,
+        Err(error) => return say_unopened(rt, name, error),
     };
+    let bytes = read_at_most(rt.alloc(), file, 8192)?;
+    let mut text = vec![in rt.alloc(); 0u8; 65536]?;
+    let listed = listing::listing(&bytes, &mut text);
+    text.truncate(listed.length);
     write_output(rt, b"== ");
-    write_output(rt, &name[..length]);
+    write_output(rt, name);
     write_output(rt, b"\n");
-    let mut text = [0u8; 65536];
-    print_listing(rt, &input[..n], &mut text);
-}
-
-// The listing of a file, which is laid into `text` first.
-fn print_listing(rt: &HostRuntime, bytes: &[u8], text: &mut [u8]) {
-    let listed = listing::listing(bytes, text);
-    let length = listed.length;
-    write_output(rt, &text[..length]);
+    write_output(rt, &text);
+    Ok(())
 }

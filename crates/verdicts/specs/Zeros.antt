@@ -1,6 +1,5 @@
 -- What a refusal hands back beside its verdict. Assumes nothing.
 use Rattle.std.specs.Prelude.{pos}
-use Rattle.records.specs.declared.Verdict.{Verdict}
 use Rattle.records.specs.declared.Judged.{Judged}
 use Rattle.records.specs.declared.ObjectTotal.{ObjectTotal}
 use Rattle.records.specs.declared.ObjectValue.{ObjectValue}
@@ -10,6 +9,7 @@ use Rattle.records.specs.declared.JobRead.{JobRead}
 use Rattle.meaning.specs.Publishing.{no_value}
 use Rattle.meaning.specs.Calls.{no_parameters, no_spreading}
 use Rattle.meaning.specs.File.{no_head}
+use Rattle.meaning.specs.Refusals.{Verdict}
 
 -- a judgement of zeros
 abbrev pub no_judgement : Verdict → Judged

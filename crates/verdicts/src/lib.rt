@@ -7,28 +7,22 @@ ghost use Rattle.meaning.specs.Calls.{given, no_parameters, square_sum};
 ghost use Rattle.verdicts.specs.Zeros.{no_judgement, no_solution, no_total, no_value_under, no_deviation, no_job};
 
 use records::{
-    BlockDeviation, Head, JobRead, Judged, ObjectTotal, ObjectValue, Parameters, Solved, Spread,
-    Spreading, SquareSum, Value, Verdict, Wide,
+    BlockDeviation, Head, JobRead, Judged, ObjectTotal, ObjectValue, Parameters, Solved, Spreading,
+    SquareSum, Value, Verdict, Wide,
 };
 
 // Whether a verdict refuses.
 pub fn is_refused(verdict: Verdict) -> bool
     ensures { result ≡ given verdict false true }
 {
-    if let Verdict::Accepted = verdict {
-        return false;
-    }
-    true
+    verdict.is_err()
 }
 
 // One test after another: the first of two verdicts that refuses.
 pub fn first(before: Verdict, after: Verdict) -> Verdict
     ensures { result ≡ before ⨾ after }
 {
-    if is_refused(before) {
-        return before;
-    }
-    after
+    before.and(after)
 }
 
 // What a refusing judgement hands back: its verdict, and zeros.
@@ -52,7 +46,7 @@ pub fn no_solution(refusal: Verdict) -> Solved
         vbeta: 0,
         freedom: 0,
         hundredths: 0,
-        spread: Spread::None,
+        spread: None,
     };
     Solved {
         verdict: refusal,
@@ -70,6 +64,7 @@ pub fn no_total(verdict: Verdict) -> ObjectTotal
 }
 
 // What a refused sum of squares hands back.
+#[tactic(auto, using(crate::proofs::Sums::square_none))]
 pub fn no_sum(verdict: Verdict) -> SquareSum
     ensures { result ≡ square_sum verdict 0 }
 {

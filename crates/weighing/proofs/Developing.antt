@@ -20,7 +20,7 @@ use Rattle.algebra.proofs.Bounds.{abs_between, abs-*-le, abs_sum, sum-squares}
 use Rattle.records.specs.declared.Head.{Head}
 use Rattle.meaning.specs.Design.{objects, blocks, left, right}
 use Rattle.meaning.specs.Analysis.{reading, sign, total, squared_totals, member}
-use Rattle.meaning.specs.Refusals.{room, reading_limit}
+use Rattle.meaning.specs.Refusals.{reading_limit}
 use Rattle.meaning.specs.Calls.{word, word_at}
 use Rattle.laws.specs.Fits.{Fits}
 use Rattle.laws.proofs.Chains.{Sound}

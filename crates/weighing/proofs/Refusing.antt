@@ -12,9 +12,8 @@ use lib.Dec.{eqb, leb}
 use lib.IntN.{ℤ}
 use lib.ListN.{length}
 use Rattle.records.specs.declared.Head.{Head}
-use Rattle.records.specs.declared.Verdict.{Verdict}
 use Rattle.meaning.specs.Design.{objects, blocks, sized}
-use Rattle.meaning.specs.Refusals.{accepted, ◌⨾◌, in_reach, room}
+use Rattle.meaning.specs.Refusals.{Verdict, accepted, ◌⨾◌, in_reach, room}
 use Rattle.laws.specs.Fits.{Fits}
 use Rattle.laws.proofs.Chains.{opened, held, accepts, goes_on, test_yes, accepted-last, fits, sized_yes, readings-near}
 use Rattle.weighing.specs.Verdicts.{stray_word, weigh_verdict}

@@ -2,12 +2,11 @@
 use Rattle.std.specs.Prelude.{ℕ, ◌*◌, ◌^◌, List, eqb, leb, ℤ, get_or, length}
 use Rattle.algebra.specs.Ranges.{first_from}
 use Rattle.records.specs.declared.Head.{Head}
-use Rattle.records.specs.declared.Verdict.{Verdict}
 use Rattle.meaning.specs.Design.{objects, blocks}
 use Rattle.records.specs.declared.SquareSum.{SquareSum}
 use Rattle.meaning.specs.Calls.{written, square_sum}
 use Rattle.weighing.specs.Developed.{total_in, squared_totals_in}
-use Rattle.meaning.specs.Refusals.{◌⨾◌, test, sizes, length_is, in_reach, room}
+use Rattle.meaning.specs.Refusals.{Verdict, ◌⨾◌, test, sizes, length_is, in_reach, room}
 
 -- of the first c words, the first that names an object from v on, or c where none does
 unfoldable pub stray_word : List ℕ → ℕ → ℕ → ℕ

@@ -10,9 +10,9 @@ ghost use Rattle.weighing.specs.Verdicts.{weigh_answer, weigh_after};
 ghost use Rattle.weighing.specs.Developed.{total_in, added, block_added, Weighed, Within, Room};
 
 use crate::weighable::weighing_refusal;
-use arithmetic::{add_square, size};
+use arithmetic::add_square;
 use design::objects;
-use records::{Head, SquareSum, Verdict, Wide};
+use records::{Head, SquareSum, Wide};
 use verdicts::{is_refused, no_sum};
 use words::{lowest, without_lowest};
 
@@ -23,6 +23,7 @@ pub fn weigh(head: Head, words: &[u64], readings: &[i32], totals: &mut [i64]) ->
     ensures totals_after { totals.new ≡ weigh_after head words.now readings.now totals.old }
 {
     let tested = weighing_refusal(head, words, readings, totals.len());
+    // A refusal hands back zeros beside its verdict.
     if is_refused(tested) {
         return no_sum(tested);
     }
@@ -30,35 +31,22 @@ pub fn weigh(head: Head, words: &[u64], readings: &[i32], totals: &mut [i64]) ->
     fill(words, readings, head.m * head.n, v, totals);
     let sum = squared_totals(totals, v);
     SquareSum {
-        verdict: Verdict::Accepted,
+        verdict: Ok(()),
         sum,
     }
 }
 
-// Lays T(0) .. T(v - 1) into `totals`: the readings are walked once, each added to the objects of its own block.
+// Lays T(0) .. T(v - 1) into `totals`: the readings are walked once, each added to the objects of its own block. A block has two words and one reading,
+// so the loop goes by its number.
 fn fill(words: &[u64], readings: &[i32], b: usize, v: usize, totals: &mut [i64])
     requires weighed { Weighed words.now readings.now b }
     requires within { Within words.now b v }
     requires v_in_bounds { v ≤ length totals.old }
     ensures { totals.new ≡ over v (total_in words.now readings.now b) totals.old }
 {
-    clear(v, totals);
-    let mut k = 0;
-    while k < b {
+    totals[..v].fill(0);
+    for k in 0..b {
         add_reading(words, readings, k, totals);
-        k += 1;
-    }
-}
-
-// Makes the first v totals 0.
-fn clear(v: usize, totals: &mut [i64])
-    requires { v ≤ length totals.old }
-    ensures { totals.new ≡ over v (λ i. pos 0) totals.old }
-{
-    let mut i = 0;
-    while i < v {
-        totals[i] = 0;
-        i += 1;
     }
 }
 
@@ -71,9 +59,9 @@ fn add_reading(words: &[u64], readings: &[i32], k: usize, totals: &mut [i64])
 {
     let left = words[2 * k];
     let right = words[2 * k + 1];
-    let y = readings[k] as i64;
+    let y = i64::from(readings[k]);
     add_to(left, y, totals);
-    add_to(right, 0 - y, totals);
+    add_to(right, -y, totals);
 }
 
 // Adds y to the total of every object of a word.
@@ -84,9 +72,7 @@ fn add_to(word: u64, y: i64, totals: &mut [i64])
 {
     let mut rest = word;
     while rest != 0 {
-        let i = lowest(rest);
-        let total = totals[i];
-        totals[i] = total + y;
+        totals[lowest(rest)] += y;
         rest = without_lowest(rest);
     }
 }
@@ -97,11 +83,8 @@ fn squared_totals(totals: &[i64], v: usize) -> Wide
     ensures { result ≡ wide (sum_ℕ v (λ i. nat_abs (get_or totals.now i (pos 0)) * nat_abs (get_or totals.now i (pos 0)))) }
 {
     let mut sum = Wide { high: 0, low: 0 };
-    let mut i = 0;
-    while i < v {
-        let total = totals[i];
-        sum = add_square(sum, size(total));
-        i += 1;
+    for total in &totals[..v] {
+        sum = add_square(sum, total.unsigned_abs());
     }
     sum
 }

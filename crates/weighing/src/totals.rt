@@ -6,7 +6,7 @@ ghost use Rattle.meaning.specs.Calls.{slices, words_under, squared_totals_answer
 use crate::adding::weigh;
 use crate::readings::slices_refusal;
 use design::{develop, objects};
-use records::{Head, ObjectTotal, SquareSum, Verdict};
+use records::{Head, ObjectTotal, Refusal, SquareSum, Verdict};
 use verdicts::{is_refused, no_sum, no_total};
 
 // T(i) of one object. The readings are tested where they are weighed, and totals that are refused stay 0.
@@ -15,11 +15,15 @@ pub fn total(head: Head, blocks: &[u8], readings: &[i32], object: usize) -> Obje
 {
     let mut words = [0u64; 2600];
     let tested = developed(head, blocks, readings, &mut words);
+    // A refusal hands back zeros beside its verdict.
     if is_refused(tested) {
         return no_total(tested);
     }
     if objects(head) <= object {
-        return no_total(Verdict::Refused(5, object));
+        return no_total(Err(Refusal {
+            number: 5,
+            place: object,
+        }));
     }
     let mut totals = [0i64; 50];
     let weighed = weigh(head, &words, readings, &mut totals);
@@ -34,6 +38,7 @@ pub fn sum_of_squared_totals(head: Head, blocks: &[u8], readings: &[i32]) -> Squ
 {
     let mut words = [0u64; 2600];
     let tested = developed(head, blocks, readings, &mut words);
+    // A refusal hands back zeros beside its verdict.
     if is_refused(tested) {
         return no_sum(tested);
     }
@@ -47,9 +52,6 @@ fn developed(head: Head, blocks: &[u8], readings: &[i32], words: &mut [u64; 2600
     ensures words_after { words.new ≡ words_under (slices head blocks.now readings.now ⨾ clean head blocks.now)
         head blocks.now words.old }
 {
-    let sliced = slices_refusal(head, blocks, readings);
-    if is_refused(sliced) {
-        return sliced;
-    }
+    slices_refusal(head, blocks, readings)?;
     develop(head, blocks, words)
 }

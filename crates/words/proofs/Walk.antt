@@ -2,7 +2,7 @@
 --     lowest_trailing         the lowest place with a 1 has as many zeros below it as the language counts
 --     lowest_one, lowest_lt   the bit there is 1, and it is a place of the word
 --     some_left, none_left    there is one just where the word is not 0
---     rest_masked             the word without it, as the code makes it
+--     rest_wrapped            the word without it, as the code makes it
 --     rest-bit                a bit of the word is that of the rest, but for the lowest
 --     rest-here, rest-other   the same at the lowest place, and at another
 --     rest-less               the rest is less, so that a walk ends
@@ -137,8 +137,8 @@ bit-less (suc x) (suc i) w h =
     rw (bit-suc (w - 2 ^ suc x) i, half, bit-suc w i, once-suc i x) (bit-less x i (w / 2) (sym (bit-suc w x) ∙ h))
 
 module _ (w : ℕ) (p : 0 < w) (h : w < 2 ^ 64) where
-  -- the rest as the code makes it
-  pub rest_masked : bit_and w (w - 1) ≡ without_lowest w
+  -- the rest, made by a mask
+  rest_masked : bit_and w (w - 1) ≡ without_lowest w
   unfolding without_lowest
   rest_masked = masked 64 w p h ∙ ap (λ (x : ℕ). w - 2 ^ x) (lowest_trailing w)
 
@@ -161,9 +161,16 @@ unfolding without_lowest
 rest-less w p = omega (arith, pow_pos (lowest_of w))
 
 -- of 0 there is no rest
-pub rest-none : without_lowest 0 ≡ 0
+rest-none : without_lowest 0 ≡ 0
 unfolding without_lowest
 rest-none = omega arith
+
+-- the rest as the code makes it, where 0 - 1 wraps
+pub rest_wrapped : (w : ℕ) → w < 2 ^ 64 → bit_and w ((w + 18446744073709551615) % 18446744073709551616) ≡ without_lowest w
+rest_wrapped zero h = sym rest-none
+rest_wrapped (suc w) h =
+    let e : (suc w + 18446744073709551615) % 18446744073709551616 ≡ suc w - 1 = omega arith in
+    rw e (rest_masked (suc w) (omega arith) h)
 
 -- ---- within a walk
 

@@ -12,25 +12,25 @@ ghost use Rattle.words.specs.Bits.{lowest_of, without_lowest};
 pub use sides::{holds, in_company, in_opposition};
 
 // How many objects stand in a word.
+#[tactic(auto, using(crate::proofs::Bits::ones_sum))]
 pub fn ones(word: u64) -> u64
     ensures { result ≡ sum_ℕ 64 (member word) }
 {
-    u64::count_ones(word) as u64
+    u64::from(word.count_ones())
 }
 
 // The place of the lowest object of a word, and 64 where it has none: with the next function, a walk of the objects of a word.
+#[tactic(auto, using(crate::proofs::Walk::lowest_trailing))]
 pub fn lowest(word: u64) -> usize
     ensures { result ≡ lowest_of word }
 {
-    u64::trailing_zeros(word) as usize
+    word.trailing_zeros() as usize
 }
 
 // A word without its lowest object. One that has none stays.
+#[tactic(auto, using(crate::proofs::Walk::rest_wrapped))]
 pub fn without_lowest(word: u64) -> u64
     ensures { result ≡ without_lowest word }
 {
-    if word == 0 {
-        return 0;
-    }
-    word & (word - 1)
+    word & word.wrapping_sub(1)
 }

@@ -8,24 +8,19 @@ ghost use Rattle.words.specs.Bits.{company_of, opposition_of};
 pub fn in_company(word: u64, i: usize, j: usize) -> u64
     ensures { result ≡ company_of word i j }
 {
-    if 63 < i {
+    if i > 63 || j > 63 {
         return 0;
     }
-    if 63 < j {
-        return 0;
-    }
-    let pair = (1u64 << i) | (1u64 << j);
-    if u64::count_ones(word & pair) == u64::count_ones(pair) {
-        1
-    } else {
-        0
-    }
+    // The ones of the pair are counted, and not two bits tested: every count of objects is the language's own.
+    let pair = (1 << i) | (1 << j);
+    u64::from((word & pair).count_ones() == pair.count_ones())
 }
 
 // 1 where i stands in one word and j in another, and 0 otherwise. The words may share objects.
 pub fn in_opposition(own: u64, other: u64, i: usize, j: usize) -> u64
     ensures { result ≡ opposition_of own other i j }
 {
+    // The product of the two, as the definition of opposition has it.
     holds(own, i) * holds(other, j)
 }
 
@@ -33,8 +28,8 @@ pub fn in_opposition(own: u64, other: u64, i: usize, j: usize) -> u64
 pub fn holds(word: u64, i: usize) -> u64
     ensures { result ≡ member word i }
 {
-    if 63 < i {
+    if i > 63 {
         return 0;
     }
-    u64::count_ones(word & (1u64 << i)) as u64
+    u64::from((word & (1 << i)).count_ones())
 }

@@ -6,6 +6,10 @@ use native.Mathlib.Nat.{pow-suc}
 use native.Mathlib.Omega.{arith}
 use lib.IntN.{ℤ, pos, negsuc}
 use lib.Signed.{mag}
+use mir.Syntax.{w32, w64}
+use mir.Val.{to_z, of_z, SFits}
+use mir.Facts.{to_z-of_z}
+use Rattle.algebra.proofs.Numbers.{widened_fits}
 use Rattle.meaning.specs.Writing.{bytes_of, wrapped}
 
 -- what is above c bytes is lost
@@ -23,3 +27,9 @@ bits_short (pos n) l = refl
 bits_short (negsuc n) l =
     let split : 2 ^ 64 - suc n ≡ 2 ^ 32 - suc n + 4294967295 * 256 ^ 4 = omega arith in
     ap (bytes_of 4) split ∙ bytes_low 4 (2 ^ 32 - suc n) 4294967295
+
+-- a reading that is widened to 64 bits keeps its own four bytes
+pub widened_short : (z : ℤ) → mag z < 2 ^ 31 → bytes_of 4 (wrapped 64 (to_z w64 (of_z w64 (to_z w32 (of_z w32 z))))) ≡ bytes_of 4 (wrapped 32 z)
+widened_short z l =
+    let fits : SFits w32 z = record { sfits = l } in
+    rw (to_z-of_z (widened_fits z fits), to_z-of_z fits) (bits_short z l)

@@ -19,11 +19,8 @@ pub(crate) fn put_readings(out: &mut [u8], at: usize, readings: &[i32]) -> usize
     ensures { Wrote out.old at (readings_body readings.now) out.new result }
 {
     let mut place = at;
-    let mut i: usize = 0;
-    while i < readings.len() {
-        let reading = readings[i];
-        place = put_bytes(out, place, 4, bits(reading as i64));
-        i += 1;
+    for &reading in readings {
+        place = put_bytes(out, place, 4, bits(i64::from(reading)));
     }
     place
 }

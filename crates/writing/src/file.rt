@@ -23,6 +23,7 @@ pub fn write(
     ensures value { result ≡ written_answer head blocks.now readings.now set sum (length out.old) }
     ensures out_after { out.new ≡ written_after head blocks.now readings.now set sum out.old }
 {
+    // A refusal hands back zeros too, so that the question mark does not serve.
     let verdict = write_refusal(head, blocks, set, sum, readings, out.len());
     if is_refused(verdict) {
         return JobWritten { verdict, length: 0 };

@@ -11,7 +11,7 @@ use crate::file::put_file;
 use design::objects;
 use judging::refusal;
 use printing::put_text;
-use records::{Head, JobWritten, Verdict};
+use records::{Head, JobWritten, Refusal, Verdict};
 use verdicts::is_refused;
 use weighing::slices_refusal;
 
@@ -28,6 +28,7 @@ pub fn write_second(
     ensures value { result ≡ written_answer2 head blocks.now readings.now set sum names.now (length out.old) }
     ensures out_after { out.new ≡ written_after2 head blocks.now readings.now set sum names.now out.old }
 {
+    // A refusal hands back zeros too, so that the question mark does not serve.
     let verdict = second_refusal(head, blocks, set, sum, readings, names, out.len());
     if is_refused(verdict) {
         return JobWritten { verdict, length: 0 };
@@ -48,23 +49,17 @@ fn second_refusal(
 ) -> Verdict
     ensures { result ≡ write_verdict2 head blocks.now readings.now set sum names.now space }
 {
-    let sliced = slices_refusal(head, blocks, readings);
-    if is_refused(sliced) {
-        return sliced;
-    }
-    let named = names_refusal(head, names);
-    if is_refused(named) {
-        return named;
-    }
-    let verdict = refusal(head, blocks, readings, set, sum);
-    if is_refused(verdict) {
-        return verdict;
-    }
+    slices_refusal(head, blocks, readings)?;
+    names_refusal(head, names)?;
+    refusal(head, blocks, readings, set, sum)?;
     let length = 36 + blocks.len() + 4 * readings.len() + names_room(names);
     if space < length {
-        return Verdict::Refused(10, 0);
+        return Err(Refusal {
+            number: 10,
+            place: 0,
+        });
     }
-    Verdict::Accepted
+    Ok(())
 }
 
 // There are no names, or eight bytes for each object.
@@ -72,23 +67,23 @@ fn names_refusal(head: Head, names: &[u8]) -> Verdict
     requires { sized head ≡ true }
     ensures { result ≡ names_fit head names.now }
 {
-    if names.len() == 0 {
-        return Verdict::Accepted;
+    if names.is_empty() {
+        return Ok(());
     }
     if names.len() != 8 * objects(head) {
-        return Verdict::Refused(3, 0);
+        return Err(Refusal {
+            number: 3,
+            place: 0,
+        });
     }
-    Verdict::Accepted
+    Ok(())
 }
 
 // How many bytes the field of the names takes.
 fn names_room(names: &[u8]) -> usize
     ensures { result ≡ length (names_field names.now) }
 {
-    if names.len() == 0 {
-        return 0;
-    }
-    3 + names.len()
+    if names.is_empty() { 0 } else { 3 + names.len() }
 }
 
 // The edition field, the four fields, and the names where there are any.
@@ -115,7 +110,7 @@ fn put_second(
 fn put_names(out: &mut [u8], at: usize, names: &[u8]) -> usize
     ensures { Wrote out.old at (names_field names.now) out.new result }
 {
-    if names.len() == 0 {
+    if names.is_empty() {
         return at;
     }
     let body = put_start(out, at, 128, names.len());

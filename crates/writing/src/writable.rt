@@ -5,8 +5,7 @@ ghost use Rattle.meaning.specs.Calls.{job_verdict};
 ghost use Rattle.meaning.specs.Writing.{file_length};
 
 use judging::refusal;
-use records::{Head, Verdict};
-use verdicts::is_refused;
+use records::{Head, Refusal, Verdict};
 
 // Why nothing is written, or that the job is accepted and `space` bytes are enough. The room is looked at last: then the lists have the lengths that
 // go with the sizes.
@@ -20,13 +19,13 @@ pub(crate) fn write_refusal(
 ) -> Verdict
     ensures { result ≡ job_verdict head blocks.now readings.now set sum ⨾ room space (file_length head) }
 {
-    let verdict = refusal(head, blocks, readings, set, sum);
-    if is_refused(verdict) {
-        return verdict;
-    }
+    refusal(head, blocks, readings, set, sum)?;
     let length = 32 + blocks.len() + 4 * readings.len();
     if space < length {
-        return Verdict::Refused(10, 0);
+        return Err(Refusal {
+            number: 10,
+            place: 0,
+        });
     }
-    Verdict::Accepted
+    Ok(())
 }

@@ -13,7 +13,7 @@
 //! # Ok::<(), mass_bench::Refusal>(())
 //! ```
 //!
-//! Calls may be made from several threads. Of the stack a call takes at most 122 KB, [`judge`] and [`grouped`] the most, so a thread that makes calls needs about
+//! Calls may be made from several threads. Of the stack a call takes at most 122 KB, [`grouped`] the most, so a thread that makes calls needs about
 //! 127 KB (hosts/bench.h has the figure of each, tests/stack measures them); that is measured, not proved. What the functions here add is little, but for [`company`] and
 //! [`opposition`], which hand back a table of 20 KB. A thread of the standard library has 2 MB unless it is told otherwise.
 

@@ -1,4 +1,5 @@
 -- The verdicts of deviations, Q and spread, from that of a whole job with a restraint that is always accepted. Assumes nothing.
+use Rattle.std.proofs.Common.{Ok, Err}
 use mathlib.Core.Path.{◌≡◌, refl, sym, ap, ◌∙◌}
 use mathlib.Core.Bool.{true, false}
 use mathlib.Core.List.{List}
@@ -10,15 +11,13 @@ use lib.Pow.{pow_mono}
 use lib.IntN.{ℤ, pos}
 use Rattle.algebra.specs.Ranges.{sum_ℕ}
 use Rattle.records.specs.declared.Head.{Head}
-use Rattle.records.specs.declared.Verdict.{Verdict}
-use Rattle.records.specs.declared.Verdict.TheVariants.{Accepted, Refused}
 use Rattle.records.specs.declared.Solved.{Solved}
 use Rattle.records.specs.declared.JobSpread.{JobSpread}
 use Rattle.records.specs.declared.SquareSum.{SquareSum}
 use Rattle.records.specs.declared.BlockDeviation.{BlockDeviation}
 use Rattle.meaning.specs.Design.{objects, blocks}
 use Rattle.meaning.specs.Analysis.{member, deviation_of, vbeta, qOf}
-use Rattle.meaning.specs.Refusals.{◌⨾◌, accepted, refused, number, place, clean, in_balance, restraint, in_reach, room}
+use Rattle.meaning.specs.Refusals.{Verdict, ◌⨾◌, accepted, refused, number, place, clean, in_balance, restraint, in_reach, room}
 use Rattle.meaning.specs.Calls.{
   given,
   slices,
@@ -64,10 +63,10 @@ module _ (h : Head) (d : List ℕ) (y : List ℤ) where
   readings-verdict = by (slices h d y) refl
     where
       by : (v : Verdict) → slices h d y ≡ v → v ⨾ (clean h d ⨾ in_balance h d ⨾ restraint h 3 (pos 0) ⨾ in_reach y) ≡ v ⨾ clean h d ⨾ in_balance h d ⨾ in_reach y
-      by Accepted e =
+      by (Ok done) e =
           ap (λ (v : Verdict). clean h d ⨾ in_balance h d ⨾ v ⨾ in_reach y) (always_restrained h (sliced h d y e).sizes)
           ∙ ap (λ (v : Verdict). v ⨾ in_reach y) (accepted-last (clean h d ⨾ in_balance h d))
-      by (Refused k at) e = refl
+      by (Err why) e = refl
 
   -- the local rooms are long enough, so the lent one decides
   pub deviations-verdict : (len : ℕ) → analyse_verdict h d y 3 (pos 0) 2600 50 len ≡ deviations_verdict h d y len
@@ -75,8 +74,8 @@ module _ (h : Head) (d : List ℕ) (y : List ℤ) where
   deviations-verdict len = ap (λ (v : Verdict). v ⨾ rooms h 2600 50 len) readings-verdict ∙ by (readings_verdict h d y) refl
     where
       by : (v : Verdict) → readings_verdict h d y ≡ v → v ⨾ rooms h 2600 50 len ≡ v ⨾ room len (blocks h)
-      by Accepted e = rooms-deviations h (measured h d y e).design.sizes len
-      by (Refused k at) e = refl
+      by (Ok done) e = rooms-deviations h (measured h d y e).design.sizes len
+      by (Err why) e = refl
 
   -- with room for the largest the readings decide
   pub spread-verdict : deviations_verdict h d y 1300 ≡ readings_verdict h d y
@@ -84,8 +83,8 @@ module _ (h : Head) (d : List ℕ) (y : List ℤ) where
   spread-verdict = by (readings_verdict h d y) refl
     where
       by : (v : Verdict) → readings_verdict h d y ≡ v → v ⨾ room 1300 (blocks h) ≡ v
-      by Accepted e = let f = (measured h d y e).design.sizes in sym (rooms-deviations h f 1300) ∙ rooms-all h f
-      by (Refused k at) e = refl
+      by (Ok done) e = let f = (measured h d y e).design.sizes in sym (rooms-deviations h f 1300) ∙ rooms-all h f
+      by (Err why) e = refl
 
   module _ (k : ℕ) where
     -- the blocks are refused
@@ -133,5 +132,5 @@ module _ (h : Head) (d : List ℕ) (y : List ℤ) where
   q_of_spread = by (readings_verdict h d y)
     where
       by : (v : Verdict) → ◌≡◌ {A = SquareSum} (square_sum v (qOf h d y)) (record { verdict = v; sum = (given v (spreading_of h d y) no_spreading).q })
-      by Accepted = refl
-      by (Refused k at) = refl
+      by (Ok done) = refl
+      by (Err why) = refl

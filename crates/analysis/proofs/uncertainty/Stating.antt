@@ -1,22 +1,21 @@
 -- The numbers of an accepted job are in the range of a standard uncertainty, so what is made from them is the definition's. Assumes nothing.
+use Rattle.std.proofs.Common.{Option, None}
 use mathlib.Core.Path.{◌≡◌, sym, ap, ◌∙◌}
 use mathlib.Core.Bool.{true, false}
 use mathlib.Core.List.{List}
 use Prim.Native.Nat.{ℕ}
 use lib.IntN.{ℤ}
 use Rattle.records.specs.declared.Head.{Head}
-use Rattle.records.specs.declared.Verdict.{Verdict}
 use Rattle.records.specs.declared.JobSpread.{JobSpread}
 use Rattle.records.specs.declared.ObjectValue.{ObjectValue}
 use Rattle.records.specs.declared.ObjectUncertainty.{ObjectUncertainty}
 use Rattle.records.specs.declared.Uncertainty.{Uncertainty}
-use Rattle.records.specs.declared.Uncertainty.TheVariants.{Unstated}
 use Rattle.meaning.specs.Design.{objects}
 use Rattle.meaning.specs.Analysis.{qOf, vbeta, denominator_of, factor, freedom}
 use Rattle.meaning.specs.Publishing.{value_of, no_value}
 use Rattle.meaning.specs.Certificate.{uncertainty_of, uncertainty_answer}
 use Rattle.meaning.specs.Wide.{value, wide}
-use Rattle.meaning.specs.Refusals.{◌⨾◌, accepted, number, place, clean, exists, in_balance, restraint, in_reach}
+use Rattle.meaning.specs.Refusals.{Verdict, ◌⨾◌, accepted, number, place, clean, exists, in_balance, restraint, in_reach}
 use Rattle.meaning.specs.Calls.{
   given,
   slices,
@@ -58,10 +57,10 @@ module _ (h : Head) (d : List ℕ) (y : List ℤ) (w : ℕ) (M : ℤ) (i : ℕ) 
 
   -- a refusal states nothing
   pub states_nothing : (v : Verdict) → given v false true ≡ true → v ≡ value_verdict h d y w M i →
-      ◌≡◌ {A = ObjectUncertainty} (record { verdict = v; uncertainty = Unstated }) (uncertainty_answer h d y w M i)
+      ◌≡◌ {A = ObjectUncertainty} (record { verdict = v; uncertainty = None }) (uncertainty_answer h d y w M i)
   states_nothing v r e =
-      (λ z. record { verdict = v; uncertainty = sym (given_no v (uncertainty_of h d y w i) Unstated (number v) (place v) (refusing v r)) z })
-      ∙ ap (λ (v : Verdict). record { verdict = v; uncertainty = given v (uncertainty_of h d y w i) Unstated }) e
+      (λ z. record { verdict = v; uncertainty = sym (given_no v (uncertainty_of h d y w i) None (number v) (place v) (refusing v r)) z })
+      ∙ ap (λ (v : Verdict). record { verdict = v; uncertainty = given v (uncertainty_of h d y w i) None }) e
 
   -- an acceptance states what is made from the value and the spread that were handed out
   module _ (a : ObjectValue) (s : JobSpread) (p : a ≡ value_answer h d y w M i) (q : s ≡ spread_answer h d y) (r : given a.verdict false true ≡ false) where
@@ -74,11 +73,11 @@ module _ (h : Head) (d : List ℕ) (y : List ℤ) (w : ℕ) (M : ℤ) (i : ℕ) 
     spread : s.spreading ≡ spreading_of h d y
     spread = ap (λ (o : JobSpread). o.spreading) q ∙ given_yes (readings_verdict h d y) (spreading_of h d y) no_spreading (value-accepted valued).1
 
-    pub states : (u : Uncertainty) →
+    pub states : (u : Option Uncertainty) →
         u ≡ uncertainty_in (value s.spreading.q) a.value.denominator s.spreading.vbeta s.spreading.freedom a.value.factor →
         ◌≡◌ {A = ObjectUncertainty} (record { verdict = accepted; uncertainty = u }) (uncertainty_answer h d y w M i)
     states u e =
-        ap (λ (u : Uncertainty). record { verdict = accepted; uncertainty = u })
+        ap (λ (u : Option Uncertainty). record { verdict = accepted; uncertainty = u })
         (e ∙ (λ z. uncertainty_in (value (spread z).q) (own z).denominator (spread z).vbeta (spread z).freedom (own z).factor)
         ∙ uncertainty_of_job (job h d y w M (value-accepted valued).0))
-        ∙ sym (ap (λ (v : Verdict). record { verdict = v; uncertainty = given v (uncertainty_of h d y w i) Unstated }) valued)
+        ∙ sym (ap (λ (v : Verdict). record { verdict = v; uncertainty = given v (uncertainty_of h d y w i) None }) valued)

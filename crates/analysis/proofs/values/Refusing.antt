@@ -1,4 +1,5 @@
 -- The verdicts of values, from that of a whole job worked out in rooms that are long enough, and the Value of an object. Assumes nothing.
+use Rattle.std.proofs.Common.{Ok, Err}
 use mathlib.Core.Path.{◌≡◌, refl, sym, ap, ◌∙◌}
 use mathlib.Core.Bool.{true, false, cond}
 use mathlib.Core.List.{List}
@@ -9,14 +10,12 @@ use lib.Dec.{eqb, ltb, leb}
 use lib.IntN.{ℤ, pos}
 use Rattle.algebra.specs.Ranges.{sum_ℕ}
 use Rattle.records.specs.declared.Head.{Head}
-use Rattle.records.specs.declared.Verdict.{Verdict}
-use Rattle.records.specs.declared.Verdict.TheVariants.{Accepted, Refused}
 use Rattle.records.specs.declared.Value.{Value}
 use Rattle.records.specs.declared.ObjectValue.{ObjectValue}
 use Rattle.meaning.specs.Design.{objects}
 use Rattle.meaning.specs.Analysis.{member, members, numerator_of, denominator_of, factor}
 use Rattle.meaning.specs.Publishing.{published, value_of, no_value}
-use Rattle.meaning.specs.Refusals.{◌⨾◌, accepted, refused, number, place, clean, in_balance, restraint, in_reach, room}
+use Rattle.meaning.specs.Refusals.{Verdict, ◌⨾◌, accepted, refused, number, place, clean, in_balance, restraint, in_reach, room}
 use Rattle.meaning.specs.Calls.{given, slices, contents, job_verdict, rooms, analyse_verdict, values_verdict, value_verdict, value_answer}
 use Rattle.laws.proofs.Chains.{Job, opened, accepts, goes_on, refused_stays, test_yes, test_no, job}
 use Rattle.laws.proofs.Variance.{factor-most}
@@ -36,8 +35,8 @@ module _ (h : Head) (d : List ℕ) (y : List ℤ) (w : ℕ) (M : ℤ) where
   values-verdict len = by (job_verdict h d y w M) refl
     where
       by : (v : Verdict) → job_verdict h d y w M ≡ v → v ⨾ rooms h 2600 len 1300 ≡ v ⨾ room len (objects h)
-      by Accepted e = rooms-values h (job h d y w M e).measures.design.sizes len
-      by (Refused k at) e = refl
+      by (Ok done) e = rooms-values h (job h d y w M e).measures.design.sizes len
+      by (Err why) e = refl
 
   -- a refused job, a job with too little room, and one with enough
   pub values-refused : (len k at : ℕ) → job_verdict h d y w M ≡ refused k at → values_verdict h d y w M len ≡ refused k at
@@ -58,8 +57,8 @@ module _ (h : Head) (d : List ℕ) (y : List ℤ) (w : ℕ) (M : ℤ) where
   job-verdict = by (job_verdict h d y w M) refl
     where
       by : (v : Verdict) → job_verdict h d y w M ≡ v → v ⨾ rooms h 2600 50 1300 ≡ v
-      by Accepted e = rooms-all h (job h d y w M e).measures.design.sizes
-      by (Refused k at) e = refl
+      by (Ok done) e = rooms-all h (job h d y w M e).measures.design.sizes
+      by (Err why) e = refl
 
   module _ (i : ℕ) where
     -- the blocks are refused

@@ -5,9 +5,8 @@ use mathlib.Core.Path.{◌≡◌, refl, sym, ap, ◌∙◌}
 use Prim.Native.Nat.{ℕ, ◌<◌, ◌≤◌}
 use lib.ListN.{length}
 use Rattle.meaning.specs.Calls.{given}
-use Rattle.meaning.specs.Refusals.{refused}
+use Rattle.meaning.specs.Refusals.{Verdict, refused}
 use Rattle.meaning.specs.CardText.{text_answer, text_after}
-use Rattle.records.specs.declared.Verdict.{Verdict}
 use Rattle.slots.specs.Answers.{listed_call}
 use Rattle.api.proofs.Last.{given-twice, listed-short, listed_enough}
 

@@ -6,9 +6,8 @@ use native.Mathlib.Nat.{div-le_self, add-div_right, add-mod_right, div-eq_of_lt,
 use native.Mathlib.Omega.{arith}
 use borrow.Author.Tests.{ltb-true}
 use lib.Dec.{ltb}
-use lib.IntN.{ℤ, pos, negsuc, neg_ℤ, ◌-ℤ◌, ◌*ℤ◌}
+use lib.IntN.{ℤ, pos, negsuc, neg_ℤ, ◌*ℤ◌}
 use lib.Signed.{lt_z}
-use Rattle.algebra.proofs.Signs.{less}
 use Rattle.meaning.specs.Publishing.{minus, signed, nearest, floor, part}
 use Rattle.arithmetic.specs.Quotient.{lifted_of}
 
@@ -23,14 +22,6 @@ has_minus (negsuc n) e = refl
 pub no_minus : (x : ℤ) → lt_z x (pos 0) ≡ false → minus x ≡ false
 no_minus (pos n) e = refl
 no_minus (negsuc n) e = absurd (true≢false e)
-
--- 0 less a size is that size with a minus
-pub with_minus : (x : ℤ) (m : ℕ) → minus x ≡ true → pos 0 -ℤ pos m ≡ signed (minus x) m
-with_minus x m e = less (pos m) ∙ ap (λ (s : Bool). signed s m) (sym e)
-
--- a size alone has none
-pub without_minus : (x : ℤ) (m : ℕ) → minus x ≡ false → pos m ≡ signed (minus x) m
-without_minus x m e = ap (λ (s : Bool). signed s m) (sym e)
 
 -- ---- floors
 

@@ -1,5 +1,5 @@
 -- The test of words that are to be counted, as a record of what it says.
---     countable-is, is-countable     the test decides the record
+--     countable_is, is-countable     the test decides the record
 --     counted_yes, counted_no        the table that is handed back, by the test
 -- Assumes nothing.
 use Prim.Native.Nat.{ℕ, ◌*◌, ◌^◌, ◌≤◌, ◌<◌}
@@ -27,9 +27,9 @@ module _ (ws : List ℕ) (b : ℕ) where
   abbrev low : ℕ → Bool
   low c = ltb (get_or ws c 0) (2 ^ 50)
 
-  pub countable-is : countable ws b ≡ true → Countable ws b
+  pub countable_is : countable ws b ≡ true → Countable ws b
   unfolding countable
-  countable-is e =
+  countable_is e =
       let few = and_left (leb b 1300 && long) (all (2 * b) low) e in
       record {
         blocks-most = leb-true _ _ (and_left (leb b 1300) long few);
@@ -46,7 +46,7 @@ module _ (ws : List ℕ) (b : ℕ) where
   not-countable n = by (countable ws b) refl
     where
       by : (t : Bool) → countable ws b ≡ t → t ≡ false
-      by true e = absurd (n (countable-is e))
+      by true e = absurd (n (countable_is e))
       by false e = refl
 
   module _ (opposite : Bool) where

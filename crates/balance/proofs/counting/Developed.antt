@@ -1,5 +1,6 @@
 -- What a development into a room of 2,600 words leaves: its verdict is that of the block list, its words can be counted, and the tables counted in
 -- them are those of the design. Assumes nothing.
+use Rattle.std.proofs.Common.{Ok, Err}
 use Prim.Native.Nat.{ℕ, ◌*◌, ◌≤◌, ◌<◌}
 use mathlib.Core.Path.{◌≡◌, refl, sym, ap, ◌∙◌}
 use mathlib.Core.Bool.{Bool, true, false}
@@ -10,10 +11,8 @@ use lib.ListN.{get_or, length}
 use Rattle.algebra.specs.Buffers.{over}
 use Rattle.algebra.proofs.Filling.{length_over, get_d_over}
 use Rattle.records.specs.declared.Head.{Head}
-use Rattle.records.specs.declared.Verdict.{Verdict}
-use Rattle.records.specs.declared.Verdict.TheVariants.{Accepted, Refused}
 use Rattle.meaning.specs.Design.{objects, blocks, left, right, company, opposition}
-use Rattle.meaning.specs.Refusals.{accepted, test, ◌⨾◌, room}
+use Rattle.meaning.specs.Refusals.{Verdict, accepted, test, ◌⨾◌, room}
 use Rattle.meaning.specs.Calls.{word_at, design_verdict, develop_verdict, words_under, company_table, opposition_table}
 use Rattle.laws.proofs.Chains.{sound, given_yes}
 use Rattle.balance.specs.Meetings.{counted}
@@ -26,8 +25,8 @@ module _ (h : Head) (d : List ℕ) where
   room_enough = by (design_verdict h d) refl
     where
       by : (a : Verdict) → design_verdict h d ≡ a → a ⨾ room 2600 (2 * blocks h) ≡ a
-      by Accepted e = ap (λ (t : Bool). test t 10 0) (le-leb (2 * blocks h) 2600 (let f = (sound h d e).sizes in omega arith))
-      by (Refused k at) e = refl
+      by (Ok done) e = ap (λ (t : Bool). test t 10 0) (le-leb (2 * blocks h) 2600 (let f = (sound h d e).sizes in omega arith))
+      by (Err why) e = refl
 
   -- the words that a development leaves in such a room where its block list is accepted
   module _ (l : List ℕ) {ws : List ℕ} (whole : length l ≡ 2600) (w : ws ≡ words_under (develop_verdict h d 2600) h d l) (e : design_verdict h d ≡ accepted) where

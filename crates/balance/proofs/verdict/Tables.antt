@@ -16,9 +16,8 @@ use Rattle.algebra.proofs.Filling.{get_d_over}
 use Rattle.algebra.proofs.Sums.{sumℕ_le_const}
 use Rattle.algebra.proofs.Tests.{all_cong}
 use Rattle.records.specs.declared.Head.{Head}
-use Rattle.records.specs.declared.Verdict.{Verdict}
 use Rattle.meaning.specs.Design.{objects, blocks, occ, left, right, company, opposition, balanced, beta}
-use Rattle.meaning.specs.Refusals.{accepted}
+use Rattle.meaning.specs.Refusals.{Verdict, accepted}
 use Rattle.meaning.specs.Calls.{given, word_at, design_verdict, judge_verdict, judged, table_of, company_table, opposition_table}
 use Rattle.laws.proofs.Tables.{entry_of}
 use Rattle.laws.proofs.Chains.{Sound, sound, given_yes}

@@ -1,79 +1,30 @@
 -- The parts of what a card's words give, cut where it ends at the latest; the fields of the file, and how many bytes it has. Assumes nothing.
-use Prim.Native.Nat.{ℕ, ◌+◌, ◌-◌, ◌*◌, ◌≤◌, ◌<◌}
+use Prim.Native.Nat.{ℕ, ◌+◌, ◌-◌, ◌*◌, ◌≤◌, ◌<◌, min}
 use mathlib.Core.Path.{◌≡◌, refl, sym, ap, ◌∙◌}
-use mathlib.Core.Bool.{Bool, true, false, cond}
-use mathlib.Core.List.{List, [], ◌∷◌, ◌++◌}
+use mathlib.Core.Bool.{true}
+use mathlib.Core.List.{List, ◌∷◌, ◌++◌}
 use native.Mathlib.Omega.{arith}
-use native.Mathlib.Nat.{mul-le-mul}
-use borrow.Author.Tests.{ltb-true, ltb-false}
-use lib.Dec.{ltb}
 use lib.IntN.{ℤ}
-use lib.ListN.{length, take, drop, length-append, length-drop, take-append-drop, drop_of_length-le}
-use lib.Seq.{take_all, take-length, drop-length, take-nil, drop-drop, take-append_seam}
+use lib.ListN.{length, take, drop, length-append, length-drop, take-append-drop}
+use lib.Seq.{take_all, drop-drop, take-append_seam}
 use Rattle.algebra.specs.Buffers.{Wrote}
 use Rattle.algebra.proofs.Writing.{named, kept, counts, in_front}
-use Rattle.records.specs.declared.Head.{Head}
 use Rattle.records.specs.declared.Card.{Card}
 use Rattle.meaning.specs.Design.{list_length}
 use Rattle.meaning.specs.Writing.{bytes_of, wrapped, sizes_body, restraint_body}
 use Rattle.meaning.specs.Edition2.{edition_field}
 use Rattle.meaning.specs.Card.{field, block_bytes, readings_bytes, other_bytes, four_fields, is_second, file_from}
 use Rattle.laws.proofs.Bytes.{bytes-long}
+use Rattle.std.proofs.lemmas.List.{take_min, drop_min}
 use Rattle.cards.proofs.Choices.{either}
+use Rattle.cards.proofs.optional.Parts.{part-within}
 
 -- ---- cut at a place, or at the end where that comes first
 
-abbrev pub clamp : List ℕ → ℕ → ℕ
-clamp s k = cond (ltb k (length s)) k (length s)
-
-module _ (s : List ℕ) (k : ℕ) where
-  pub clamp-inside : clamp s k ≤ length s
-  clamp-inside = by (ltb k (length s)) refl
-    where
-      by : (b : Bool) → ltb k (length s) ≡ b → cond b k (length s) ≤ length s
-      by true e = omega (arith, ltb-true k (length s) e)
-      by false e = omega arith
-
-  pub front_part : take (clamp s k) s ≡ take k s
-  front_part = by (ltb k (length s)) refl
-    where
-      by : (b : Bool) → ltb k (length s) ≡ b → take (cond b k (length s)) s ≡ take k s
-      by true e = refl
-      by false e = take-length s ∙ sym (take_all k s (ltb-false k (length s) e))
-
-  back-part : drop (clamp s k) s ≡ drop k s
-  back-part = by (ltb k (length s)) refl
-    where
-      by : (b : Bool) → ltb k (length s) ≡ b → drop (cond b k (length s)) s ≡ drop k s
-      by true e = refl
-      by false e = drop-length s ∙ sym (drop_of_length-le s {i = k} (ltb-false k (length s) e))
-
-  pub last-part : take (length s - clamp s k) (drop (clamp s k) s) ≡ drop k s
-  last-part = take_all (length s - clamp s k) (drop (clamp s k) s) (omega (arith, length-drop (clamp s k) s)) ∙ back-part
-
-  -- of the next so many
-  module _ (more : ℕ) where
-    pub clamp-later : clamp s k ≤ clamp s (k + more)
-    clamp-later = by (ltb k (length s)) (ltb (k + more) (length s)) refl refl
-      where
-        by : (a b : Bool) → ltb k (length s) ≡ a → ltb (k + more) (length s) ≡ b → cond a k (length s) ≤ cond b (k + more) (length s)
-        by true true e f = omega arith
-        by true false e f = omega (arith, ltb-true k (length s) e)
-        by false true e f = omega (arith, ltb-false k (length s) e, ltb-true (k + more) (length s) f)
-        by false false e f = omega arith
-
-    pub middle-part : take (clamp s (k + more) - clamp s k) (drop (clamp s k) s) ≡ take more (drop k s)
-    middle-part = by (ltb k (length s)) (ltb (k + more) (length s)) refl refl
-      where
-        by : (a b : Bool) → ltb k (length s) ≡ a → ltb (k + more) (length s) ≡ b →
-            take (cond b (k + more) (length s) - cond a k (length s)) (drop (cond a k (length s)) s) ≡ take more (drop k s)
-        by true true e f = let n : k + more - k ≡ more = omega arith in ap (λ (i : ℕ). take i (drop k s)) n
-        by true false e f = take_all (length s - k) (drop k s) (omega (arith, length-drop k s))
-            ∙ sym (take_all more (drop k s) (omega (arith, length-drop k s, ltb-false (k + more) (length s) f)))
-        by false b e f =
-            let n = cond b (k + more) (length s) - length s in
-            ap (take n) (drop-length s) ∙ take-nil n
-            ∙ sym (ap (take more) (drop_of_length-le s {i = k} (ltb-false k (length s) e)) ∙ take-nil more)
+-- what stands behind the cut
+last-part : (s : List ℕ) (k : ℕ) → take (length s - min k (length s)) (drop (min k (length s)) s) ≡ drop k s
+last-part s k =
+    take_all (length s - min k (length s)) (drop (min k (length s)) s) (omega (arith, length-drop (min k (length s)) s)) ∙ drop_min k s
 
 -- the two parts and the rest are all
 pub parts-long : (s : List ℕ) (a b : ℕ) → length (take a s) + length (take b (drop a s)) + length (drop (a + b) s) ≡ length s
@@ -91,33 +42,25 @@ field-long tag body = omega (arith, length-append (bytes_of 2 (length body)) bod
 pub restraint-long : (w : ℕ) (M : ℤ) → length (restraint_body w M) ≡ 16
 restraint-long w M = omega (arith, length-append (bytes_of 8 w) (bytes_of 8 (wrapped 64 M)), bytes-long 8 w, bytes-long 8 (wrapped 64 M))
 
--- few enough bytes of blocks that no sum of lengths leaves its type
-pub blocks-few : (h : Head) → h.p ≤ 255 → h.m ≤ 255 → list_length h ≤ 130050
-blocks-few h p m = let double : 2 * h.p ≤ 510 = omega arith in mul-le-mul double m
-
 module _ (c : Card) (s : List ℕ) where
   -- the four fields, from what is put
-  pub fields_are : (middle end : ℕ) (sum : ℤ) → sum ≡ c.sum → middle ≡ clamp s (list_length c.head) →
-      end ≡ clamp s (list_length c.head + 4 * c.readings) →
+  pub fields_are : (middle end : ℕ) (sum : ℤ) → sum ≡ c.sum → middle ≡ min (list_length c.head) (length s) →
+      end ≡ min (list_length c.head + 4 * c.readings) (length s) →
       field 1 (sizes_body c.head) ++ field 2 (take middle s) ++ (3 ∷ bytes_of 2 16 ++ restraint_body c.set sum)
       ++ field 4 (take (end - middle) (drop middle s)) ≡ four_fields c s
   unfolding four_fields
   fields_are middle end sum t m e =
-      let a : take middle s ≡ block_bytes c s = ap (λ (i : ℕ). take i s) m ∙ front_part s (list_length c.head) in
+      let a : take middle s ≡ block_bytes c s = ap (λ (i : ℕ). take i s) m ∙ take_min (list_length c.head) s in
       let b : take (end - middle) (drop middle s) ≡ readings_bytes c s =
-      (λ j. take (e j - m j) (drop (m j) s)) ∙ middle-part s (list_length c.head) (4 * c.readings) in
+      (λ j. take (e j - m j) (drop (m j) s)) ∙ part-within s (list_length c.head) (4 * c.readings) in
       let r : bytes_of 2 16 ≡ bytes_of 2 (length (restraint_body c.set c.sum)) = ap (bytes_of 2) (sym (restraint-long c.set c.sum)) in
       λ j. field 1 (sizes_body c.head) ++ field 2 (a j) ++ (3 ∷ r j ++ restraint_body c.set (t j)) ++ field 4 (b j)
 
   -- the other fields
-  pub others_are : (from : ℕ) → from ≡ clamp s (list_length c.head + 4 * c.readings) → take (length s - from) (drop from s) ≡ other_bytes c s
+  pub others_are : (from : ℕ) → from ≡ min (list_length c.head + 4 * c.readings) (length s) → take (length s - from) (drop from s) ≡ other_bytes c s
   others_are from e = (λ j. take (length s - e j) (drop (e j) s)) ∙ last-part s (list_length c.head + 4 * c.readings)
 
-  -- the file of each edition
-  pub first-is : is_second c ≡ false → four_fields c s ≡ file_from c s
-  unfolding file_from
-  first-is e = rw e refl
-
+  -- the file of the second edition
   pub second_is : is_second c ≡ true → edition_field ++ four_fields c s ++ other_bytes c s ≡ file_from c s
   unfolding file_from
   second_is e = rw e refl

@@ -1,22 +1,32 @@
 -- Digits in base 16: what they are worth, and a word of them, digit by digit. Assumes nothing.
-use Prim.Native.Nat.{ℕ, zero, suc, ◌+◌, ◌*◌, ◌-◌, ◌/◌, ◌%◌, ◌<◌, ◌≤◌}
+use Prim.Native.Nat.{ℕ, zero, suc, ◌+◌, ◌*◌, ◌/◌, ◌%◌, ◌<◌, ◌≤◌}
 use mathlib.Core.Path.{◌≡◌, refl, sym, ap, ◌∙◌}
-use mathlib.Core.List.{List, [], ◌∷◌, ◌++◌}
-use mathlib.Core.Bool.{Bool, true, false, cond, ◌&&◌, ◌||◌, true≢false, false≢true}
+use mathlib.Core.List.{List, [], ◌∷◌, ◌++◌, append-nil}
+use mathlib.Core.Bool.{Bool, true, false, ◌&&◌, true≢false}
 use native.Mathlib.Omega.{arith}
 use native.Mathlib.Numerals.{add-one}
 use native.Mathlib.Decide.{dec_le}
 use native.Mathlib.Nat.{lt_of_not-le, add-zero}
 use borrow.Author.Tests.{leb-true, eqb-true, lt-leb}
-use lib.Dec.{eqb, ltb, leb}
-use lib.ListN.{length, get_or, take, drop, length-drop}
-use lib.Seq.{drop-cons, drop-length, drop-drop, get_or-drop}
+use lib.Dec.{eqb, leb}
+use lib.ListN.{length, get_or, drop}
+use lib.Seq.{drop-cons, get_or-drop}
+use Rattle.std.specs.Char.{is_ascii_hexdigit}
+use Rattle.std.specs.Int.{is_in_range}
+use Rattle.std.specs.List.{list_all}
+use Rattle.std.proofs.Math.Bool.{or_assoc}
+use Rattle.std.proofs.lemmas.List.Recursion.{same_from_clauses}
 use Rattle.meaning.specs.Text.{ascii}
 use Rattle.meaning.specs.SheetText.{same}
 use Rattle.meaning.specs.Card.{is_hex, hex_digit, hex_byte, all_hex, hex_bytes, is_body, body_of, is_tag}
 use Rattle.cards.proofs.Choices.{either, and_first, and_second, second_false}
 
 -- ---- one digit
+
+-- the library's test asks for the same three ranges
+pub hexdigit : (x : ℕ) → is_ascii_hexdigit x ≡ is_hex x
+unfolding is_hex
+hexdigit x = or_assoc (is_in_range 48 57 x) (is_in_range 65 70 x) (is_in_range 97 102 x)
 
 -- a byte that is no digit
 hex_past : (x : ℕ) → 102 < x → is_hex x ≡ false
@@ -26,6 +36,10 @@ hex_past x h = rw (lt-leb x 57 (omega arith), lt-leb x 70 (omega arith), lt-leb 
 hex_before : (x : ℕ) → x < 48 → is_hex x ≡ false
 unfolding is_hex
 hex_before x h = rw (lt-leb 48 x h, lt-leb 65 x (omega arith), lt-leb 97 x (omega arith))
+
+hex_gap : (x : ℕ) → 57 < x → x < 65 → is_hex x ≡ false
+unfolding is_hex
+hex_gap x l h = rw (lt-leb x 57 l, lt-leb 65 x h, lt-leb 97 x (omega arith), second_false (leb 48 x) refl)
 
 hex_between : (x : ℕ) → 70 < x → x < 97 → is_hex x ≡ false
 unfolding is_hex
@@ -46,6 +60,13 @@ module _ (x : ℕ) (d : is_hex x ≡ true) where
       by : Dec (48 ≤ x) → 48 ≤ x
       by (yes h) = h
       by (no f) = absurd (true≢false (sym d ∙ hex_before x (lt_of_not-le f)))
+
+  pub hex_capital : 57 < x → 65 ≤ x
+  hex_capital l = by (dec_le 65 x)
+    where
+      by : Dec (65 ≤ x) → 65 ≤ x
+      by (yes h) = h
+      by (no f) = absurd (true≢false (sym d ∙ hex_gap x l (lt_of_not-le f)))
 
   pub hex_small : 70 < x → 97 ≤ x
   hex_small l = by (dec_le 97 x)
@@ -70,14 +91,32 @@ module _ (w : List ℕ) (i : ℕ) (more : i < length w) where
   unfolding all_hex
   all_here = rw (drop-cons w i 0 more, add-one i)
 
-pub all_end : (w : List ℕ) (i : ℕ) → i ≡ length w → all_hex (drop i w) ≡ true
+pub every_hex : (w : List ℕ) → list_all is_ascii_hexdigit w ≡ all_hex w
 unfolding all_hex
-all_end w i e = rw (e, drop-length)
+every_hex w = same_from_clauses (list_all is_ascii_hexdigit) all_hex (λ x b. is_ascii_hexdigit x && b) refl (λ x v. refl)
+    (λ x v. ap (λ (b : Bool). b && all_hex v) (sym (hexdigit x))) w
 
--- what the digits of a word write, byte by byte
-pub bytes-here : (k : ℕ) (w : List ℕ) (i : ℕ) → hex_bytes (suc k) (drop i w) ≡ hex_byte (drop i w) ∷ hex_bytes k (drop (i + 2) w)
+-- two digits in front of others
+pub pair_hex : (d t : List ℕ) → length d ≡ 2 → all_hex (d ++ t) ≡ true → (is_hex (get_or d 0 0) ≡ true) × (is_hex (get_or d 1 0) ≡ true) × (all_hex t ≡ true)
+unfolding all_hex
+pair_hex [] t e h = absurd (omega arith)
+pair_hex (a ∷ []) t e h = absurd (omega arith)
+pair_hex (a ∷ b ∷ []) t e h =
+    let later = and_second (is_hex a) (is_hex b && all_hex t) h in
+    (and_first (is_hex a) (is_hex b && all_hex t) h, and_first (is_hex b) (all_hex t) later, and_second (is_hex b) (all_hex t) later)
+pair_hex (a ∷ b ∷ c ∷ d) t e h = absurd (omega arith)
+
+-- alone
+pub two_digits : (w : List ℕ) → length w ≡ 2 → all_hex w ≡ true → (is_hex (get_or w 0 0) ≡ true) × (is_hex (get_or w 1 0) ≡ true)
+two_digits w e h = let p = pair_hex w [] e (ap all_hex (append-nil w) ∙ h) in (p.0, p.1)
+
+-- and the byte that they write
+pub pair_bytes : (d t : List ℕ) → length d ≡ 2 → hex_bytes (length (d ++ t) / 2) (d ++ t) ≡ hex_byte d ∷ hex_bytes (length t / 2) t
 unfolding hex_bytes
-bytes-here k w i = rw drop-drop
+pair_bytes [] t e = absurd (omega arith)
+pair_bytes (a ∷ []) t e = absurd (omega arith)
+pair_bytes (a ∷ b ∷ []) t e = let one : suc (suc (length t)) / 2 ≡ suc (length t / 2) = omega arith in rw one
+pair_bytes (a ∷ b ∷ c ∷ d) t e = absurd (omega arith)
 
 pub bytes-none : {k : ℕ} (w : List ℕ) → k ≡ 0 → hex_bytes k w ≡ []
 unfolding hex_bytes
@@ -125,10 +164,6 @@ module _ (w : List ℕ) where
   pub body-none : same w (ascii "-") ≡ true → body_of w ≡ []
   unfolding body_of
   body-none e = rw e
-
-  pub body-digits : same w (ascii "-") ≡ false → body_of w ≡ hex_bytes (length w / 2) w
-  unfolding body_of
-  body-digits e = rw e
 
   pub body_is : same w (ascii "-") ≡ false → is_body w ≡ true → (all_hex w ≡ true) × (length w % 2 ≡ 0)
   unfolding is_body

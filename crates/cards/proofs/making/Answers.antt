@@ -1,18 +1,17 @@
 -- The verdict of a card by the first of its tests that refuses, and the answer that goes with it. Assumes nothing.
+use Rattle.std.proofs.Common.{Ok, Err}
 use Prim.Native.Nat.{ℕ, ◌≤◌, ◌<◌}
-use mathlib.Core.Path.{◌≡◌, refl, sym, ◌∙◌}
+use mathlib.Core.Path.{◌≡◌, refl, sym}
 use mathlib.Core.Bool.{true, false, false≢true}
 use mathlib.Core.List.{List, ◌++◌}
 use native.Mathlib.Omega.{arith}
-use borrow.Author.Tests.{lt-ltb, le-ltb, lt-leb, le-leb, leb-true}
+use borrow.Author.Tests.{lt-ltb, le-ltb, leb-true}
 use lib.Dec.{leb}
 use lib.ListN.{length, drop}
 use Rattle.algebra.specs.Buffers.{Wrote}
 use Rattle.algebra.proofs.Writing.{counts, in_front}
 use Rattle.records.specs.declared.CardRead.{CardRead}
-use Rattle.records.specs.declared.Verdict.{Verdict}
-use Rattle.records.specs.declared.Verdict.TheVariants.{Accepted, Refused}
-use Rattle.meaning.specs.Refusals.{accepted, refused, room}
+use Rattle.meaning.specs.Refusals.{Verdict, accepted, refused, room}
 use Rattle.meaning.specs.Calls.{given}
 use Rattle.meaning.specs.File.{read_verdict}
 use Rattle.meaning.specs.Edition2.{read_verdict2}
@@ -82,14 +81,6 @@ module _ (s : List ℕ) where
   unfolding file_verdict
   first-tests e = rw e refl
 
-  -- the room after them
-  module _ (sound : file_verdict s ≡ accepted) (space : ℕ) where
-    pub no_room : space < length (card_file s) → refused 10 0 ≡ filing s space
-    no_room l = rw (sound, lt-leb (length (card_file s)) space l) refl
-
-    pub with_room : length (card_file s) ≤ space → accepted ≡ filing s space
-    with_room l = rw (sound, le-leb (length (card_file s)) space l) refl
-
   module _ (out : List ℕ) where
     -- the answer of its file, and the room after
     abbrev pub Files : CardRead → List ℕ → Type 0
@@ -97,8 +88,8 @@ module _ (s : List ℕ) where
 
     -- refused: no byte is written
     pub unfiled : (v : Verdict) → v ≡ filing s (length out) → given v false true ≡ true → Files (record { verdict = v; wants = 0; length = 0 }) out
-    unfiled Accepted e r = absurd (false≢true r)
-    unfiled (Refused k at) e r = rw (sym e) (refl, refl)
+    unfiled (Ok done) e r = absurd (false≢true r)
+    unfiled (Err why) e r = rw (sym e) (refl, refl)
 
     -- accepted: there is room for the file, and it stands in front
     module _ (e : filing s (length out) ≡ accepted) where

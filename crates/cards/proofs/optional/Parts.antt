@@ -1,54 +1,36 @@
 -- Laws of optional fields as they are printed: a part of the file up to its end, bytes in base 16 one after the other, and the fields one after the
 -- other. Assumes nothing.
-use mathlib.Core.Bool.{Bool, true, false, cond}
+use mathlib.Core.Bool.{cond}
 use mathlib.Core.List.{List, [], ◌∷◌, ◌++◌, append_assoc, append-nil}
 use mathlib.Core.Path.{◌≡◌, refl, sym, ap, ◌∙◌}
-use Prim.Native.Nat.{ℕ, zero, suc, ◌+◌, ◌-◌, ◌≤◌, ◌<◌}
+use Prim.Native.Nat.{ℕ, zero, suc, ◌+◌, ◌-◌, ◌≤◌, ◌<◌, min}
 use native.Mathlib.Decide.{dec_le}
-use native.Mathlib.Nat.{lt_of_not-le}
+use native.Mathlib.Nat.{lt_of_not-le, le_of_lt, min-eq_left, min-eq_right}
 use native.Mathlib.Numerals.{add-one}
 use native.Mathlib.Omega.{arith}
-use borrow.Author.Tests.{lt-ltb, le-ltb, le-leb, lt-leb, leb-false}
+use borrow.Author.Tests.{le-leb, lt-leb}
 use lib.Dec.{leb}
 use lib.ListN.{length, take, drop, get_or, length-drop, drop_of_length-le}
 use lib.Seq.{take-suc, take_all, take-nil}
 use Rattle.algebra.specs.Buffers.{Wrote}
 use Rattle.algebra.proofs.Writing.{nothing, named, ◌then◌}
 use Rattle.meaning.specs.File.{big}
-use Rattle.meaning.specs.Text.{ascii, hex_text}
-use Rattle.meaning.specs.CardText.{hex_texts, body_text, other_line, other_lines}
-use Rattle.cards.specs.Printed.{least}
+use Rattle.meaning.specs.Text.{hex_text}
+use Rattle.meaning.specs.CardText.{hex_texts, other_line, other_lines}
 
 -- ---- a part of the file, up to its end
 
-least-low : (a e : ℕ) → a ≤ e → least a e ≡ a
-unfolding least
-least-low a e h = rw (le-ltb e a h)
+least-low : (a e : ℕ) → a ≤ e → min a e ≡ a
+least-low a e h = min-eq_left h
 
-least_high : (a e : ℕ) → e < a → least a e ≡ e
-unfolding least
-least_high a e h = rw (lt-ltb e a h)
-
--- it ends by the end, and does not start after it ends
-least-most : (a e : ℕ) → least a e ≤ e
-least-most a e = by (dec_le a e)
-  where
-    by : Dec (a ≤ e) → least a e ≤ e
-    by (yes h) = omega (arith, least-low a e h)
-    by (no f) = omega (arith, least_high a e (lt_of_not-le f))
-
-least_rises : (a n e : ℕ) → least a e ≤ least (a + n) e
-least_rises a n e = by (dec_le (a + n) e)
-  where
-    by : Dec (a + n ≤ e) → least a e ≤ least (a + n) e
-    by (yes h) = omega (arith, least-low a e (omega arith), least-low (a + n) e h)
-    by (no f) = omega (arith, least-most a e, least_high (a + n) e (lt_of_not-le f))
+least_high : (a e : ℕ) → e < a → min a e ≡ e
+least_high a e h = min-eq_right (le_of_lt h)
 
 -- it is what stands there
-part-within : (s : List ℕ) (a n : ℕ) → take (least (a + n) (length s) - least a (length s)) (drop (least a (length s)) s) ≡ take n (drop a s)
+pub part-within : (s : List ℕ) (a n : ℕ) → take (min (a + n) (length s) - min a (length s)) (drop (min a (length s)) s) ≡ take n (drop a s)
 part-within s a n = by (dec_le a (length s))
   where
-    inside : a ≤ length s → Dec (a + n ≤ length s) → take (least (a + n) (length s) - least a (length s)) (drop (least a (length s)) s) ≡ take n (drop a s)
+    inside : a ≤ length s → Dec (a + n ≤ length s) → take (min (a + n) (length s) - min a (length s)) (drop (min a (length s)) s) ≡ take n (drop a s)
     inside h (yes k) =
         let e : a + n - a ≡ n = omega arith in
         rw (least-low a (length s) h, least-low (a + n) (length s) k, e)
@@ -57,7 +39,7 @@ part-within s a n = by (dec_le a (length s))
         (take_all (length s - a) (drop a s) (omega (arith, length-drop a s))
         ∙ sym (take_all n (drop a s) (omega (arith, length-drop a s, lt_of_not-le k))))
 
-    by : Dec (a ≤ length s) → take (least (a + n) (length s) - least a (length s)) (drop (least a (length s)) s) ≡ take n (drop a s)
+    by : Dec (a ≤ length s) → take (min (a + n) (length s) - min a (length s)) (drop (min a (length s)) s) ≡ take n (drop a s)
     by (yes h) = inside h (dec_le (a + n) (length s))
     by (no f) =
         let h = lt_of_not-le f in
@@ -73,12 +55,9 @@ part-within s a n = by (dec_le a (length s))
         )
 
 -- the same of a part whose start and end were found
-module _ (s : List ℕ) (a n low high end : ℕ) (l : low ≡ least a (length s)) (h : high ≡ least end (length s)) (e : end ≡ a + n) where
-  pub part-found : take (high - low) (drop low s) ≡ take n (drop a s)
-  part-found = rw (l, h, e) (part-within s a n)
-
-  pub part-inside : (low ≤ high) × (high ≤ length s)
-  part-inside = rw (l, h, e) (least_rises a n (length s), least-most (a + n) (length s))
+pub part-found : (s : List ℕ) (a n low high end : ℕ) → low ≡ min a (length s) → high ≡ min end (length s) → end ≡ a + n →
+    take (high - low) (drop low s) ≡ take n (drop a s)
+part-found s a n low high end l h e = rw (l, h, e) (part-within s a n)
 
 -- ---- bytes in base 16
 
@@ -100,15 +79,6 @@ hex_none = refl
 pub more_hex : {o o' o'' : List ℕ} {at r r' : ℕ} (s : List ℕ) (i : ℕ) → i < length s → Wrote o at (hex_texts (take i s)) o' r →
     Wrote o' r (hex_text (get_or s i 0)) o'' r' → Wrote o at (hex_texts (take (i + 1) s)) o'' r'
 more_hex s i h p q = rw (add-one, take-suc s i 0, hex_append, hex_one) (p then q)
-
--- the bytes of a field: none, and some
-pub body-none : (s : List ℕ) → length s ≡ 0 → ascii "-" ≡ body_text s
-body-none [] e = refl
-body-none (x ∷ s) e = absurd (omega arith)
-
-pub body-some : (s : List ℕ) → (length s ≡ 0 → ⊥) → hex_texts s ≡ body_text s
-body-some [] n = absurd (n refl)
-body-some (x ∷ s) n = refl
 
 -- ---- the fields one after the other; as many turns as there are bytes are enough
 

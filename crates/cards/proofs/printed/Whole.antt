@@ -1,7 +1,8 @@
 -- What the parts of a file that are handed on come to: the four fields as a job, and the card of a file of either edition. Assumes nothing.
+use Rattle.std.proofs.Common.{Ok, Err}
 use mathlib.Core.Bool.{Bool, true, false, cond}
 use mathlib.Core.List.{List, [], ◌++◌, append-nil}
-use mathlib.Core.Path.{◌≡◌, refl, ap, ◌∙◌}
+use mathlib.Core.Path.{◌≡◌, refl, ◌∙◌}
 use Prim.Native.Nat.{ℕ, ◌+◌, ◌*◌, ◌≤◌}
 use native.Mathlib.Omega.{arith}
 use lib.Dec.{eqb}
@@ -9,12 +10,10 @@ use lib.IntN.{ℤ}
 use lib.ListN.{length, get_or}
 use Rattle.records.specs.declared.Head.{Head}
 use Rattle.records.specs.declared.Held.{Held}
-use Rattle.records.specs.declared.Verdict.{Verdict}
-use Rattle.records.specs.declared.Verdict.TheVariants.{Accepted, Refused}
 use Rattle.meaning.specs.Design.{objects, blocks, sized, list_length}
-use Rattle.meaning.specs.Refusals.{accepted}
+use Rattle.meaning.specs.Refusals.{Verdict, accepted}
 use Rattle.meaning.specs.Calls.{given}
-use Rattle.meaning.specs.File.{head_of, readings_at, blocks_of, set_of, sum_of, readings_of, fields, read_verdict, no_head}
+use Rattle.meaning.specs.File.{head_of, readings_at, blocks_of, sum_of, readings_of, fields, read_verdict, no_head}
 use Rattle.meaning.specs.Edition2.{four_of, names_tag, optional_at, names_at, read_verdict2}
 use Rattle.meaning.specs.CardText.{card_text, four_text, other_lines, card_under, card_text_of, card_under2, card_text_of2}
 use Rattle.laws.specs.Fits.{Fits}
@@ -58,8 +57,8 @@ unfolding printed_text card_text_of other_lines
 first-printed s = by (read_verdict s)
   where
     by : (v : Verdict) → printed_text v s [] 0 0 ≡ card_under v s
-    by Accepted = append-nil (four_text s ++ []) ∙ append-nil (four_text s)
-    by (Refused k place) = refl
+    by (Ok done) = append-nil (four_text s ++ []) ∙ append-nil (four_text s)
+    by (Err why) = refl
 
 -- ---- a file of the second edition, by what reading it told
 
@@ -73,10 +72,10 @@ module _ (s : List ℕ) where
       at h false = omega arith
 
       by : (v : Verdict) → read_verdict2 s ≡ v → given v (names_at s) 0 ≤ 16387
-      by Accepted e =
+      by (Ok done) e =
           let w = whole s (file_job2 s e).0 in
           at (omega (arith, four-inside s w.edition_there.long, w.short)) (eqb (get_or s (optional_at s) 0) names_tag)
-      by (Refused k place) e = omega arith
+      by (Err why) e = omega arith
 
   -- where the names start by its answer, and where the fields after them do by its head
   abbrev pub names_by : Verdict → ℕ
@@ -85,13 +84,18 @@ module _ (s : List ℕ) where
   abbrev pub others_by : Verdict → ℕ
   others_by v = let head = given v (head_of (four_of s)) no_head in cond (eqb (names_by v) 0) (optional_at s) (names_by v + 8 * within head (objects head))
 
-  pub second-printed : printed_text (read_verdict2 s) (four_of s) s (names_by (read_verdict2 s)) (others_by (read_verdict2 s)) ≡ card_text_of2 s
+  second-printed : printed_text (read_verdict2 s) (four_of s) s (names_by (read_verdict2 s)) (others_by (read_verdict2 s)) ≡ card_text_of2 s
   unfolding printed_text card_text_of2
   second-printed = by (read_verdict2 s) refl
     where
       by : (v : Verdict) → read_verdict2 s ≡ v → printed_text v (four_of s) s (names_by v) (others_by v) ≡ card_under2 v s
-      by Accepted e =
+      by (Ok done) e =
           let h = head_of (four_of s) in
           let f = fits h (filed (four_of s) (whole s (file_job2 s e).0).four).size in
           rw (within-sizes h (objects h) f)
-      by (Refused k place) e = refl
+      by (Err why) e = refl
+
+  -- the text that is printed of what reading told
+  pub second_told : {v : Verdict} {four : List ℕ} {names others : ℕ} → v ≡ read_verdict2 s → four ≡ four_of s →
+      names ≡ names_by (read_verdict2 s) → others ≡ others_by (read_verdict2 s) → printed_text v four s names others ≡ card_text_of2 s
+  second_told p q n o = (λ j. printed_text (p j) (q j) s (n j) (o j)) ∙ second-printed

@@ -1,15 +1,15 @@
 -- A card read on by a word and by a byte: what is left of it stays the same card, the same place and the same bytes. Assumes nothing.
-use Prim.Native.Nat.{ℕ, suc, ◌+◌, ◌-◌, ◌<◌, ◌≤◌}
+use Prim.Native.Nat.{ℕ, ◌+◌, ◌-◌, ◌<◌, ◌≤◌}
 use mathlib.Core.Path.{◌≡◌, refl, sym, ap, ap₂, subst, ◌∙◌}
-use mathlib.Core.List.{List, [], ◌∷◌, ◌++◌}
+use mathlib.Core.List.{List, []}
 use mathlib.Core.Bool.{Bool, true, false, cond, not, ◌||◌}
 use native.Mathlib.Omega.{arith}
 use lib.Dec.{eqb, ltb}
-use lib.ListN.{length, get_or, take, drop}
+use lib.ListN.{length, get_or, drop}
 use Rattle.algebra.specs.Buffers.{write, Wrote}
 use Rattle.algebra.proofs.Writing.{named, nothing}
 use Rattle.records.specs.declared.Card.{Card}
-use Rattle.meaning.specs.Card.{Word, ending, words_from, words, no_card, card_of, bytes_in, word_in, longer, taken, given_bytes, adds, step, within, card_by, bytes_by, word_by}
+use Rattle.meaning.specs.Card.{Word, ending, words_from, card_of, bytes_in, word_in, longer, taken, given_bytes, adds, step, within, card_by, bytes_by, word_by}
 use Rattle.cards.specs.declared.reading.Walk.{Walk}
 use Rattle.cards.specs.Putting.{Puts}
 use Rattle.cards.specs.Sizes.{Kept}
@@ -168,52 +168,12 @@ pub record Walked (s : List ℕ) (wants len : ℕ) (first body : List ℕ) (walk
   pub long : length body ≡ length first
   pub kept : Kept walk.start walk.card
 
-none_kept : Kept 0 no_card
-none_kept = record {
-  sizes = record {
-    some = omega arith;
-    last = omega arith;
-    n = omega arith;
-    flag = omega arith;
-    p = omega arith;
-    m = omega arith;
-    count = omega arith;
-    readings = omega arith;
-  };
-  length = omega arith;
-}
-
 module _ (s : List ℕ) (wants len : ℕ) (first : List ℕ) where
-  -- before the first byte
-  pub walked_none : (c : Card) → c ≡ no_card → Walked s wants len first first (record { card = c; at = 0; comment = false; start = 0 }) 0
-  walked_none c e = record {
-    inside = omega arith;
-    start = omega arith;
-    card = ap (λ (x : Card). card_by x (words s)) e;
-    at = ap (λ (x : Card). word_by wants len x 0 (words s)) e;
-    bytes = λ g j. write first (e j).length (bytes_by (e j) (words s));
-    long = refl;
-    kept = subst (Kept 0) (sym e) none_kept;
-  }
-
-  -- behind one more
-  pub walked_more : {body after : List ℕ} {walk r : Walk} {k : ℕ} → Walked s wants len first body walk k → k < length s →
-      Turned s k wants len walk body r after → Walked s wants len first after r (k + 1)
-  walked_more w l t = record {
-    inside = omega arith;
-    start = t.start;
-    card = t.card ∙ w.card;
-    at = t.at ∙ w.at;
-    bytes = λ g. t.bytes (ap (λ (x : Card). x.bad) (t.card ∙ w.card) ∙ g) ∙ w.bytes g;
-    long = t.long ∙ w.long;
-    kept = t.kept;
-  }
-
   -- behind the last
-  module _ {body after : List ℕ} {walk : Walk} {k : ℕ} (r : Walk) (w : Walked s wants len first body walk k) (end : length s ≤ k)
-      (d : Ended s k wants len walk body r after) where
-    at-end : k ≡ length s
-    at-end = omega (arith, w.inside)
+  module _ {body after : List ℕ} {walk : Walk} {k : ℕ} (r : Walk) (w : Walked s wants len first body walk k) (at-end : k ≡ length s)
+      (ended : Ended s (length s) wants len walk body r after) where
+    d : Ended s k wants len walk body r after
+    d = subst (λ (i : ℕ). Ended s i wants len walk body r after) (sym at-end) ended
 
     last-left : ending k (begun s k walk) [] ≡ left s k walk
     last-left = sym (left_end s k walk.comment (begun s k walk) at-end)
@@ -229,6 +189,3 @@ module _ (s : List ℕ) (wants len : ℕ) (first : List ℕ) where
       is = (d.bytes.bytes (ap not g)).is ∙ ap (λ (l : List Word). write body walk.card.length (bytes_by walk.card l)) last-left
           ∙ w.bytes (sym (ap (λ (x : Card). x.bad) whole-card) ∙ g);
     }
-
-    pub whole-kept : Kept (length s) r.card
-    whole-kept = subst (λ (i : ℕ). Kept i r.card) at-end d.kept

@@ -1,15 +1,16 @@
 -- A card's rule, at all of its entries: one test that the checker computes over the card, and one law that carries it to each entry. Assumes nothing.
 use mathlib.Core.Path.{◌≡◌, refl, ◌∙◌, subst, sym, ap, ap₂}
 use mathlib.Core.Bool.{Bool, true, false, cond, ◌&&◌}
-use mathlib.Core.List.{List, [], ◌∷◌}
+use mathlib.Core.List.{List, [], ◌∷◌, ◌++◌}
 use Prim.Native.Nat.{ℕ, zero, suc, ◌+◌, ◌*◌, ◌/◌, ◌%◌, ◌≤◌, ◌<◌}
 use native.Mathlib.Nat.{mul-le-mul, add-zero, zero-add, add-suc, suc-add, le_of_suc-le-suc, not-suc-le-zero}
 use native.Mathlib.Omega.{arith}
 use native.Mathlib.Decide.{ℕ_discrete}
 use lib.Arith.{digits_lt, digits_div, digits_mod}
 use lib.Dec.{eqb, ltb}
-use lib.ListN.{length, get_or}
+use lib.ListN.{length, get_or, drop}
 use borrow.Author.Tests.{eqb-true, ne_eqb, ltb-true}
+use Rattle.algebra.specs.Buffers.{over}
 use Rattle.algebra.proofs.Tests.{and_left, and_right}
 use Rattle.records.specs.declared.Head.{Head}
 use Rattle.meaning.specs.Design.{by_field, field_prime, digit_sum, plus}
@@ -111,3 +112,10 @@ pub place-most : (h : Head) (x s : ℕ) → Fits h → by_field h ≡ true → x
 place-most h x s f t l m =
     let most : h.n ≤ 49 = field-most h.n (field_there h f t) in
     omega (arith, on_card h.n h.n x s refl l m, mul-le-mul most most)
+
+-- a card copied to the front of the room
+pub copied_front : (card room : List ℕ) → length card ≤ length room → card ++ drop (length card) room ≡ over (length card) (λ i. get_or card i 0) room
+unfolding over
+copied_front [] room h = refl
+copied_front (x ∷ xs) [] h = absurd (not-suc-le-zero h)
+copied_front (x ∷ xs) (y ∷ ys) h = ap (λ (t : List ℕ). x ∷ t) (copied_front xs ys (le_of_suc-le-suc h))

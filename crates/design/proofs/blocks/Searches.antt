@@ -1,29 +1,20 @@
--- One turn of the search for a byte among those of a block: it ends here, or goes on at the next byte. Assumes nothing.
-use Prim.Native.Nat.{ℕ, suc, ◌+◌, ◌<◌}
-use mathlib.Core.Path.{◌≡◌, sym}
-use mathlib.Core.List.{List}
-use mathlib.Core.Bool.{true}
-use native.Mathlib.Numerals.{add-one}
-use native.Mathlib.Omega.{arith}
+-- A byte stands among some where it stands there at least once. Assumes nothing.
+use Prim.Native.Nat.{ℕ, ◌+◌}
+use mathlib.Core.Path.{◌≡◌, refl, sym}
+use mathlib.Core.List.{List, [], ◌∷◌}
+use native.Mathlib.Decide.{ℕ_discrete}
 use native.Mathlib.Nat.{zero-add}
+use native.Mathlib.Omega.{arith}
 use borrow.Author.Tests.{eq-eqb, ne_eqb, lt-ltb}
-use lib.Dec.{ltb}
-use lib.ListN.{get_or, length, drop}
-use lib.Seq.{drop-cons, drop-length}
+use lib.Dec.{eqb, ltb}
+use Rattle.std.specs.List.{list_any}
 use Rattle.meaning.specs.Design.{occ}
 
-module _ (xs : List ℕ) (x k : ℕ) (more : k < length xs) where
-  -- x stands here
-  pub among-here : get_or xs k 0 ≡ x → ltb 0 (occ x (drop k xs)) ≡ true
-  unfolding occ
-  among-here e = rw (drop-cons xs k 0 more, eq-eqb x (get_or xs k 0) (sym e)) (lt-ltb 0 (1 + occ x (drop (suc k) xs)) (omega arith))
-
-  -- another byte stands here
-  pub among_later : (get_or xs k 0 ≡ x → ⊥) → occ x (drop k xs) ≡ occ x (drop (k + 1) xs)
-  unfolding occ
-  among_later other = rw (drop-cons xs k 0 more, ne_eqb x (get_or xs k 0) (λ e. other (sym e)), add-one k) (zero-add _)
-
--- no byte is left
-pub among_none : (xs : List ℕ) (x k : ℕ) → k ≡ length xs → occ x (drop k xs) ≡ 0
+pub any-occurs : (x : ℕ) (xs : List ℕ) → list_any (λ y. eqb y x) xs ≡ ltb 0 (occ x xs)
 unfolding occ
-among_none xs x k e = rw (e, drop-length)
+any-occurs x [] = refl
+any-occurs x (y ∷ ys) = go (any-occurs x ys) (ℕ_discrete x y)
+  where
+    go : list_any (λ z. eqb z x) ys ≡ ltb 0 (occ x ys) → Dec (x ≡ y) → list_any (λ z. eqb z x) (y ∷ ys) ≡ ltb 0 (occ x (y ∷ ys))
+    go later (yes e) = rw (eq-eqb y x (sym e), eq-eqb x y e) (sym (lt-ltb 0 (1 + occ x ys) (omega arith)))
+    go later (no n) = rw (ne_eqb y x (λ e. n (sym e)), ne_eqb x y n, zero-add) later

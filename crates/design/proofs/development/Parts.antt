@@ -23,9 +23,13 @@ use Rattle.laws.specs.Fits.{Fits}
 use Rattle.laws.proofs.Occurrences.{Each, each-head, each_tail}
 use Rattle.laws.proofs.Clean.{moved_range}
 
--- an object is at most 50
+-- an object is below 50
+pub moved_below : (h : Head) (s x : ℕ) → Fits h → s < h.n → in_range h x ≡ true → moved h s x < 50
+moved_below h s x f l t = omega (arith, moved_range h s f.has_addition_lem l x t, f.objects-most)
+
+-- so it is at most 50
 pub moved-most : (h : Head) (s x : ℕ) → Fits h → s < h.n → in_range h x ≡ true → moved h s x ≤ 50
-moved-most h s x f l t = omega (arith, moved_range h s f.has_addition_lem l x t, f.objects-most)
+moved-most h s x f l t = omega (arith, moved_below h s x f l t)
 
 -- the first byte's bit and the word of the rest
 pub word_more : (g : ℕ → ℕ) (xs : List ℕ) (k : ℕ) → k < length xs → word (map g (drop k xs)) ≡ 2 ^ g (get_or xs k 0) + word (map g (drop (k + 1) xs))

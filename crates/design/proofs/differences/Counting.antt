@@ -20,19 +20,15 @@ use Rattle.algebra.proofs.Filling.{get_d_over, length_over}
 use Rattle.algebra.proofs.Groups.{less}
 use Rattle.algebra.proofs.Sums.{sumℕ_cong, sumℕ_le_const}
 use Rattle.records.specs.declared.Head.{Head}
-use Rattle.records.specs.declared.Verdict.{Verdict}
-use Rattle.records.specs.declared.Differences.{Differences}
 use Rattle.meaning.specs.Design.{occ, plus, moved, company, opposition}
-use Rattle.meaning.specs.Refusals.{accepted, refused}
-use Rattle.meaning.specs.Calls.{design_verdict}
 use Rattle.laws.specs.Differences.{initial_left, initial_right, over_elements}
-use Rattle.laws.proofs.Chains.{Sound, given_yes, given_no}
+use Rattle.laws.proofs.Chains.{Sound}
 use Rattle.laws.proofs.Occurrences.{Each}
 use Rattle.laws.proofs.Clean.{part_length, part_range}
 use Rattle.laws.proofs.DifferencesShifts.{Named, elements-alike, elements-next}
 use Rattle.laws.proofs.Differences.{addition, left_named, right_named, company-back, opposition-back}
 use Rattle.design.specs.Addition.{back}
-use Rattle.design.specs.Differences.{Side, Row, More, met_from, met, within_of, across_of, no_row, row_of, differences_of}
+use Rattle.design.specs.Differences.{Side, Row, More, met_from, met, within_of, across_of, no_row, row_of}
 use Rattle.design.proofs.addition.Negatives.{back-less}
 
 -- ---- how often an object stands in a side
@@ -110,15 +106,6 @@ met-most h e xs ys few fewer = omega (arith, met-each h e xs ys few)
 
 -- ---- rows
 
--- nothing is counted from ∞
-pub from_fixed : (h : Head) (y : ℕ) (xs row : List ℕ) → y ≡ 255 → More (λ e. met_from h y e xs) row row
-from_fixed h y xs row q = record { long = refl; each = λ e m. rw (eq-eqb y 255 q) (omega arith) }
-
--- from an element, the side at the shift that takes it to 0
-pub from_element : (h : Head) (y s : ℕ) (xs a b : List ℕ) → (y ≡ 255 → ⊥) → s ≡ back h y
-    → More (λ e. occ e (map (moved h s) xs)) a b → More (λ e. met_from h y e xs) a b
-from_element h y s xs a b q t p = record { long = p.long; each = λ e m. rw (ne_eqb y 255 q, ← t) (p.each e m) }
-
 -- counts added twice
 pub more-twice : (f g k : ℕ → ℕ) (a b c : List ℕ) → More f a b → More g b c → ((e : ℕ) → k e ≡ f e + g e) → More k a c
 more-twice f g k a b c p q same =
@@ -170,6 +157,14 @@ right_side h d s q l =
       few = omega (arith, part_length d (2 * h.p * q + h.p) h.p in_list, s.sizes.sides-fit, s.sizes.objects-most);
       ranged = part_range h d s (2 * h.p * q + h.p) h.p in_list;
     }
+
+-- each as a loop lends it
+pub left-lent : (h : Head) (d : List ℕ) → Sound h d → (q : ℕ) → q < h.m → Side h (take (2 * h.p * q + h.p - 2 * h.p * q) (drop (2 * h.p * q) d))
+left-lent h d s q l = subst (Side h) (sym (part_same (2 * h.p * q) h.p d)) (left-side h d s q l)
+
+pub right-lent : (h : Head) (d : List ℕ) → Sound h d → (q : ℕ) → q < h.m
+    → Side h (take (2 * h.p * q + h.p + h.p - (2 * h.p * q + h.p)) (drop (2 * h.p * q + h.p) d))
+right-lent h d s q l = subst (Side h) (sym (part_same (2 * h.p * q + h.p) h.p d)) (right_side h d s q l)
 
 -- a row of zeros has zeros
 zero_row : (e : ℕ) → e < 50 → get_or no_row e 0 ≡ 0
@@ -238,23 +233,3 @@ module _ (h : Head) (d : List ℕ) (s : Sound h d) where
 
   pub opposition-row : (row : List ℕ) → More (λ e. sum_ℕ h.m (across_of h d e)) no_row row → row ≡ row_of (λ e. opposition h d e 0)
   opposition-row row p = row_is (λ e. opposition h d e 0) row p.long (λ e m. omega (arith, p.each e m, zero_row e m, opposition-met e))
-
--- ---- the answer
-abbrev made : Verdict → List ℕ → List ℕ → Differences
-made verdict within across = record { verdict = verdict; within = within; across = across }
-
-module _ (h : Head) (d : List ℕ) where
-  -- a list that is refused has rows of zeros
-  pub refused-is : (v : Verdict) (k at : ℕ) → v ≡ design_verdict h d → design_verdict h d ≡ refused k at → made v no_row no_row ≡ differences_of h d
-  refused-is v k at e r =
-      ap (λ (x : Verdict). made x no_row no_row) e
-      ∙ ap₂ (made (design_verdict h d)) (sym (given_no (design_verdict h d) (row_of (λ e. company h d e 0)) no_row k at r))
-      (sym (given_no (design_verdict h d) (row_of (λ e. opposition h d e 0)) no_row k at r))
-
-  -- one that is accepted has those of object 0
-  pub accepted-is : (v : Verdict) (row column : List ℕ) → v ≡ design_verdict h d → design_verdict h d ≡ accepted
-      → row ≡ row_of (λ e. company h d e 0) → column ≡ row_of (λ e. opposition h d e 0) → made v row column ≡ differences_of h d
-  accepted-is v row column e r p q =
-      ap (λ (x : Verdict). made x row column) e
-      ∙ ap₂ (made (design_verdict h d)) (p ∙ sym (given_yes (design_verdict h d) (row_of (λ e. company h d e 0)) no_row r))
-      (q ∙ sym (given_yes (design_verdict h d) (row_of (λ e. opposition h d e 0)) no_row r))

@@ -1,26 +1,25 @@
 -- The fields as one reader takes them, from a tag and a place on, come to the verdict of the fields. Assumes nothing.
 --     tests    one field where the reader stands: its refusal, and after the first the sizes'.        goes     where the reader stands after it
 --     led      the verdict of k fields from there on, and of the end of the file
+use Rattle.std.proofs.Common.{Ok, Err}
 use Prim.Native.Nat.{ℕ, zero, suc, ◌+◌, ◌-◌, ◌≤◌}
 use mathlib.Core.Path.{◌≡◌, refl, sym, ap, ◌∙◌}
-use mathlib.Core.Bool.{Bool, true, false, cond, false≢true}
+use mathlib.Core.Bool.{Bool, false, cond}
 use mathlib.Core.List.{List}
 use lib.Dec.{eqb}
 use lib.ListN.{length}
 use native.Mathlib.Omega.{arith}
-use Rattle.records.specs.declared.Verdict.{Verdict}
-use Rattle.records.specs.declared.Verdict.TheVariants.{Accepted, Refused}
-use Rattle.meaning.specs.Refusals.{accepted, test, ◌⨾◌, sizes}
-use Rattle.meaning.specs.Calls.{given}
+use Rattle.records.specs.declared.Refusal.{Refusal}
+use Rattle.meaning.specs.Refusals.{Verdict, accepted, test, ◌⨾◌, sizes}
 use Rattle.meaning.specs.File.{body_length, field_verdict, field_at, field_says, field_next, head_of, second_at, third_at, fourth_at, end_at, fields}
 use Rattle.fields.proofs.framing.Says.{answer-says}
 
 -- a chain of five, from its end on
 from_the_end : (a b c d e : Verdict) → a ⨾ b ⨾ c ⨾ d ⨾ e ≡ a ⨾ (b ⨾ (c ⨾ (d ⨾ e)))
-from_the_end (Refused k p) b c d e = refl
-from_the_end Accepted (Refused k p) c d e = refl
-from_the_end Accepted Accepted (Refused k p) d e = refl
-from_the_end Accepted Accepted Accepted d e = refl
+from_the_end (Err why) b c d e = refl
+from_the_end (Ok done) (Err why) c d e = refl
+from_the_end (Ok done) (Ok done_2) (Err why) d e = refl
+from_the_end (Ok done) (Ok done_2) (Ok done_3) d e = refl
 
 module _ (s : List ℕ) where
   abbrev pub tests : ℕ → ℕ → Verdict
@@ -47,14 +46,12 @@ module _ (s : List ℕ) where
 
   module _ (k tag at : ℕ) (low : 1 ≤ k) (due : led k tag at ≡ fields s) where
     -- it is refused, and so are the fields
-    pub refuses : (v : Verdict) → v ≡ tests tag at → given v false true ≡ true → v ≡ fields s
-    refuses Accepted e r = absurd (false≢true r)
-    refuses (Refused n p) e r = ap (λ (w : Verdict). w ⨾ led (k - 1) (tag + 1) (goes tag at)) e ∙ sym (turn k tag at low) ∙ due
+    pub refuses : (why : Refusal) → tests tag at ≡ Err why → Err why ≡ fields s
+    refuses why e = sym (ap (λ (w : Verdict). w ⨾ led (k - 1) (tag + 1) (goes tag at)) e) ∙ sym (turn k tag at low) ∙ due
 
     -- it is accepted, and the rest is due
-    pub goes_on : (v : Verdict) → v ≡ tests tag at → given v false true ≡ false → led (k - 1) (tag + 1) (goes tag at) ≡ fields s
-    goes_on Accepted e r = ap (λ (w : Verdict). w ⨾ led (k - 1) (tag + 1) (goes tag at)) e ∙ sym (turn k tag at low) ∙ due
-    goes_on (Refused n p) e r = absurd (false≢true (sym r))
+    pub goes_on : (done : Unit {0}) → tests tag at ≡ Ok done → led (k - 1) (tag + 1) (goes tag at) ≡ fields s
+    goes_on done e = sym (ap (λ (w : Verdict). w ⨾ led (k - 1) (tag + 1) (goes tag at)) e) ∙ sym (turn k tag at low) ∙ due
 
   -- a field that is accepted is passed
   passes : (tag at : ℕ) → field_verdict s at tag (body_length (head_of s) tag) ≡ accepted → goes tag at ≡ at + 3 + body_length (head_of s) tag
@@ -68,11 +65,11 @@ module _ (s : List ℕ) where
   on k tag at rest late e = by_verdict (field_verdict s at tag (body_length (head_of s) tag)) refl
     where
       by_verdict : (v : Verdict) → field_verdict s at tag (body_length (head_of s) tag) ≡ v → led (suc k) tag at ≡ v ⨾ rest
-      by_verdict Accepted f =
+      by_verdict (Ok done) f =
           ap (λ (w : Verdict). w ⨾ cond (eqb tag 1) (sizes (head_of s)) accepted ⨾ led k (tag + 1) (goes tag at)) (answer-says s at tag _ ∙ f)
           ∙ ap (λ (b : Bool). cond b (sizes (head_of s)) accepted ⨾ led k (tag + 1) (goes tag at)) late
           ∙ ap (λ (p : ℕ). led k (tag + 1) p) (passes tag at f) ∙ e
-      by_verdict (Refused n p) f = ap (λ (w : Verdict). w ⨾ cond (eqb tag 1) (sizes (head_of s)) accepted ⨾ led k (tag + 1) (goes tag at))
+      by_verdict (Err why) f = ap (λ (w : Verdict). w ⨾ cond (eqb tag 1) (sizes (head_of s)) accepted ⨾ led k (tag + 1) (goes tag at))
           (answer-says s at tag _ ∙ f)
 
   -- the four
@@ -86,8 +83,8 @@ module _ (s : List ℕ) where
           ⨾ (field_verdict s (fourth_at s) 4 (body_length (head_of s) 4) ⨾ test (eqb (end_at s) (length s)) 9 (end_at s)))
 
       by_verdict : (v : Verdict) → field_verdict s 0 1 4 ≡ v → led 4 1 0 ≡ v ⨾ sizes (head_of s) ⨾ chain
-      by_verdict Accepted f =
+      by_verdict (Ok done) f =
           ap (λ (w : Verdict). w ⨾ sizes (head_of s) ⨾ led 3 2 (goes 1 0)) (answer-says s 0 1 4 ∙ f)
           ∙ ap (λ (p : ℕ). sizes (head_of s) ⨾ led 3 2 p) (passes 1 0 f)
           ∙ ap (λ (w : Verdict). sizes (head_of s) ⨾ w) (on 2 2 second_at _ refl (on 1 3 (third_at s) _ refl (on 0 4 (fourth_at s) _ refl refl)))
-      by_verdict (Refused n p) f = ap (λ (w : Verdict). w ⨾ sizes (head_of s) ⨾ led 3 2 (goes 1 0)) (answer-says s 0 1 4 ∙ f)
+      by_verdict (Err why) f = ap (λ (w : Verdict). w ⨾ sizes (head_of s) ⨾ led 3 2 (goes 1 0)) (answer-says s 0 1 4 ∙ f)

@@ -3,8 +3,7 @@ use mathlib.Core.Path.{◌≡◌}
 use mathlib.Core.List.{List}
 use Prim.Native.Nat.{ℕ}
 use denote.Ref.{Bor}
-use Rattle.meaning.specs.File.{field_at, field_next}
-use Rattle.records.specs.declared.Field.{Field}
+use Rattle.meaning.specs.File.{Field, field_at, field_next}
 use Rattle.fields.specs.declared.reader.Reader.{Reader}
 
 -- a reader of these bytes at this place

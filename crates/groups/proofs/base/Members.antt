@@ -10,9 +10,9 @@ use mathlib.Core.Path.{◌≡◌, refl, sym, ap, ap₂, ◌∙◌, subst}
 use mathlib.Core.Bool.{Bool, true, false, cond}
 use mathlib.Core.List.{List, [], ◌∷◌, ◌++◌}
 use native.Mathlib.Omega.{arith}
-use native.Mathlib.Nat.{mul-le-mul, mul-le-mul_left, mul-suc, mul_comm, suc-mul, one-mul, pow-suc, zero-add}
+use native.Mathlib.Nat.{mul-le-mul, mul-le-mul_left, mul-suc, mul_comm, one-mul, pow-suc, zero-add}
 use lib.Dec.{eqb, leb}
-use lib.Pow.{pow-add, pow_mono, pow_pos, suc_ones, ones_lt, shl_exact}
+use lib.Pow.{pow-add, pow_mono, suc_ones, ones_lt, shl_exact}
 use lib.ListN.{length, get_or}
 use borrow.Author.Tests.{eq-eqb, ne_eqb, leb-true}
 use Rattle.algebra.specs.Buffers.{over}
@@ -21,11 +21,10 @@ use Rattle.algebra.proofs.Tests.{and_right}
 use Rattle.algebra.proofs.Filling.{over_ext, over-over, get_d_over, length_over}
 use Rattle.algebra.proofs.Sums.{sumℕ-none, sumℕ-more, sumℕ_cong, sumℕ_add, sumℕ_only, sumℕ-zero}
 use Rattle.records.specs.declared.Head.{Head}
-use Rattle.records.specs.declared.Verdict.{Verdict}
 use Rattle.records.specs.declared.Parameters.{Parameters}
 use Rattle.meaning.specs.Design.{objects, blocks, list_length, occ, left, right, parameters_of}
 use Rattle.meaning.specs.Analysis.{member}
-use Rattle.meaning.specs.Refusals.{accepted, refused, number, place, ◌⨾◌, sizes, length_is, clean, in_balance, room}
+use Rattle.meaning.specs.Refusals.{Verdict, accepted, number, place, ◌⨾◌, sizes, length_is, clean, in_balance, room}
 use Rattle.meaning.specs.Calls.{given, word, word_at, design_verdict, develop_verdict, develop_after, judge_verdict}
 use Rattle.meaning.specs.Groups.{run, in_members, side_at, grouped_word_at, groups_fit, base_verdict, base_answer, base_words}
 use Rattle.laws.proofs.Chains.{Sound, opened, goes_on, refused_stays, given_yes, given_no, held, fits}

@@ -3,19 +3,18 @@
 --     grouped-refused           the list is refused
 --     grouped-judged            the verdict over the tables of its words is that of the call
 -- Assumes nothing.
-use Prim.Native.Nat.{ℕ, ◌+◌, ◌≤◌, ◌<◌}
+use Prim.Native.Nat.{ℕ, ◌+◌, ◌<◌}
 use mathlib.Core.Path.{◌≡◌, refl, sym, ap, ap₂, ◌∙◌}
-use mathlib.Core.Bool.{Bool, true, false}
+use mathlib.Core.Bool.{true, false}
 use mathlib.Core.List.{List, []}
 use native.Mathlib.Omega.{arith}
-use lib.ListN.{get_or, length}
+use lib.ListN.{get_or}
 use Rattle.algebra.specs.Ranges.{all}
 use Rattle.algebra.specs.Tables.{entry}
 use Rattle.algebra.proofs.Tests.{all_more, all_fails, all_cong}
-use Rattle.records.specs.declared.Verdict.{Verdict}
 use Rattle.records.specs.declared.GroupCounts.{GroupCounts}
 use Rattle.records.specs.declared.Grouped.{Grouped}
-use Rattle.meaning.specs.Refusals.{accepted, test, ◌⨾◌}
+use Rattle.meaning.specs.Refusals.{Verdict, accepted, test}
 use Rattle.meaning.specs.Calls.{table_of, given}
 use Rattle.meaning.specs.Groups.{
   shared,

@@ -1,22 +1,20 @@
 -- Places: of a direct call's refusal how large they are, and what moving them to the file leaves as it is. Assumes nothing.
-use Prim.Native.Nat.{ℕ, ◌+◌, ◌*◌, ◌^◌, ◌≤◌, ◌<◌}
+use Rattle.std.proofs.Common.{Ok, Err}
+use Prim.Native.Nat.{ℕ, ◌+◌, ◌*◌, ◌^◌, ◌≤◌}
 use mathlib.Core.Path.{◌≡◌, refl}
-use mathlib.Core.Bool.{Bool, true, false, cond, ◌&&◌}
+use mathlib.Core.Bool.{Bool, true, false, ◌&&◌}
 use mathlib.Core.List.{List}
 use native.Mathlib.Omega.{arith}
-use borrow.Author.Tests.{eq-eqb, ne_eqb, le-leb, lt-leb}
 use lib.Dec.{eqb, leb, ltb}
 use lib.IntN.{ℤ, nat_abs}
 use lib.ListN.{length}
 use Rattle.algebra.proofs.Tests.{first_bounds}
 use Rattle.records.specs.declared.Head.{Head}
-use Rattle.records.specs.declared.Verdict.{Verdict}
-use Rattle.records.specs.declared.Verdict.TheVariants.{Accepted, Refused}
 use Rattle.meaning.specs.Design.{objects, blocks, sized, list_length, balanced}
 use Rattle.meaning.specs.Analysis.{reading, members}
-use Rattle.meaning.specs.Refusals.{accepted, refused, reading_limit, sum_limit, place, test, ◌⨾◌, offends, offender, far_reading}
+use Rattle.meaning.specs.Refusals.{Verdict, accepted, reading_limit, sum_limit, place, test, ◌⨾◌, offends, offender, far_reading}
 use Rattle.meaning.specs.Calls.{given, slices, contents, job_verdict, rooms, analyse_verdict}
-use Rattle.meaning.specs.File.{head_of, blocks_at, third_at, readings_at, blocks_of, readings_of, fields, placed}
+use Rattle.meaning.specs.File.{head_of, third_at, readings_at, blocks_of, readings_of, fields, placed}
 use Rattle.laws.proofs.Chains.{fits, listed-most}
 use Rattle.laws.proofs.Files.{numbers-long, filed, blocks-long}
 use Rattle.fields.proofs.Starts.{third-most}
@@ -25,8 +23,8 @@ use Rattle.fields.proofs.Starts.{third-most}
 
 -- the place of a chain is that of one of its tests
 chain_place : (a b : Verdict) (most : ℕ) → place a ≤ most → place b ≤ most → place (a ⨾ b) ≤ most
-chain_place Accepted b most p q = q
-chain_place (Refused k at) b most p q = p
+chain_place (Ok done) b most p q = q
+chain_place (Err why) b most p q = p
 
 -- three tests with no place, as those of the slices and of the rooms, are refused at 0
 no_place : (a b c : Bool) (j k l most : ℕ) → place (test a j 0 ⨾ test b k 0 ⨾ test c l 0) ≤ most
@@ -87,32 +85,7 @@ file-most s e =
 
 -- ---- moving
 
--- moving leaves the number as it is
-pub moved-place : (s : List ℕ) (k i : ℕ) → refused k (place (placed s (refused k i))) ≡ placed s (refused k i)
-moved-place s k i = refl
-
-module _ (s : List ℕ) (k i : ℕ) where
-  -- 5 is moved to the byte of the blocks
-  pub place_byte : k ≡ 5 → blocks_at + i ≡ place (placed s (refused k i))
-  place_byte e = rw (eq-eqb k 5 e)
-
-  -- 7 to the start of the third field
-  pub place-restraint : k ≡ 7 → third_at s ≡ place (placed s (refused k i))
-  place-restraint e = rw e
-
-  -- 11 too
-  pub place-standards : k ≡ 11 → third_at s ≡ place (placed s (refused k i))
-  place-standards e = rw e
-
-  -- 8 to the first byte of the reading
-  pub place-reading : k ≡ 8 → readings_at s + 4 * i ≡ place (placed s (refused k i))
-  place-reading e = rw e
-
-  -- any other stays
-  pub place_else : (k ≡ 5 → ⊥) → (k ≡ 7 → ⊥) → (k ≡ 11 → ⊥) → (k ≡ 8 → ⊥) → i ≡ place (placed s (refused k i))
-  place_else a b e c = rw (ne_eqb k 5 a, ne_eqb k 7 b, ne_eqb k 11 e, ne_eqb k 8 c)
-
 -- what is given under a verdict is given under the moved one
 pub given-placed : {A : Type 0} (s : List ℕ) (verdict : Verdict) (answer nothing : A) → given (placed s verdict) answer nothing ≡ given verdict answer nothing
-given-placed s Accepted answer nothing = refl
-given-placed s (Refused k at) answer nothing = refl
+given-placed s (Ok done) answer nothing = refl
+given-placed s (Err why) answer nothing = refl

@@ -1,14 +1,14 @@
 -- Jobs cut from the bytes by their lengths, one at a time. Assumes nothing.
-use Prim.Native.Nat.{ℕ, suc, ◌+◌, ◌-◌, ◌≤◌, ◌<◌}
+use Prim.Native.Nat.{ℕ, suc, ◌+◌, ◌-◌, ◌<◌}
 use mathlib.Core.Path.{◌≡◌, refl, sym, ap, ap₂, ◌∙◌}
-use mathlib.Core.Bool.{Bool, true, false, ◌&&◌}
+use mathlib.Core.Bool.{true, ◌&&◌}
 use mathlib.Core.List.{List, [], ◌∷◌}
 use native.Mathlib.Omega.{arith}
-use borrow.Author.Tests.{eqb-true, eq-eqb, ne_eqb, ltb-true, lt-ltb, leb-true, le-leb}
+use borrow.Author.Tests.{eqb-true, ltb-true, leb-true}
 use lib.Dec.{eqb, ltb, leb}
 use lib.ListN.{length, get_or, take, drop}
 use lib.Seq.{drop-cons, drop-drop, drop-length}
-use Rattle.algebra.proofs.Tests.{and_left, and_right, and_both}
+use Rattle.algebra.proofs.Tests.{and_left, and_right}
 use Rattle.meaning.specs.Pooled.{pool_limit, lengths_sum, jobs_in}
 use Rattle.job.specs.Taking.{adds_up, EndToEnd}
 

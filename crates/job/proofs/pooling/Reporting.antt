@@ -1,6 +1,7 @@
 -- Taking the jobs in one after another gives the report of the definition: each step adds to the sums what the definition adds, moves the index on by one, and
 -- keeps the mark of the first job that differs. At the end the sums keep the range in which the spread is the definition's. Assumes nothing.
-use Prim.Native.Nat.{ℕ, zero, suc, ◌+◌, ◌-◌, ◌*◌, ◌^◌, ◌≤◌, ◌<◌}
+use Rattle.std.proofs.Common.{Ok, Err}
+use Prim.Native.Nat.{ℕ, suc, ◌+◌, ◌*◌, ◌≤◌, ◌<◌}
 use mathlib.Core.Path.{◌≡◌, refl, sym, ap, subst, ◌∙◌}
 use mathlib.Core.Bool.{Bool, true, false, cond, ◌&&◌}
 use mathlib.Core.List.{List, [], ◌∷◌}
@@ -11,34 +12,14 @@ use lib.ListN.{length}
 use Rattle.records.specs.declared.Pooled.{Pooled}
 use Rattle.records.specs.declared.Solved.{Solved}
 use Rattle.records.specs.declared.Spreading.{Spreading}
-use Rattle.records.specs.declared.Verdict.{Verdict}
-use Rattle.records.specs.declared.Verdict.TheVariants.{Accepted, Refused}
-use Rattle.records.specs.declared.Wide.{Wide}
 use Rattle.meaning.specs.Design.{beta}
 use Rattle.meaning.specs.Analysis.{spread_hundredths}
 use Rattle.meaning.specs.Wide.{value, wide}
 use Rattle.meaning.specs.Publishing.{spread_of}
-use Rattle.meaning.specs.Refusals.{accepted, refused, test, ◌⨾◌}
+use Rattle.meaning.specs.Refusals.{Verdict, accepted, refused, test, ◌⨾◌}
 use Rattle.meaning.specs.Calls.{given, solved_under, no_spreading}
 use Rattle.meaning.specs.File.{head_of, blocks_of, readings_of, set_of, read_verdict}
-use Rattle.meaning.specs.Pooled.{
-  pool_limit,
-  vIn,
-  beta_in,
-  vbeta_in,
-  qIn,
-  freedom_in,
-  first_bad,
-  bad_job,
-  alike_jobs,
-  odd_job,
-  one_kind,
-  jobs_verdict,
-  jobs_index,
-  pooled_sum,
-  pooled_spreading,
-  jobs_answer,
-}
+use Rattle.meaning.specs.Pooled.{pool_limit, vIn, beta_in, vbeta_in, qIn, freedom_in, first_bad, bad_job, alike_jobs, odd_job, one_kind, jobs_verdict, jobs_index, pooled_sum, jobs_answer}
 use Rattle.laws.proofs.Chains.{accepts}
 use Rattle.laws.proofs.Pooled.{file-vbeta, file-beta, file_q, file-freedom, pooled_q, pooled_freedom}
 use Rattle.arithmetic.specs.Hundredths.{hundredths_from, spreading_from}
@@ -184,12 +165,12 @@ from_later (s ∷ js) i v b vb Q f a m =
         given (w ⨾ first_bad js) (ended vb (Q + (qIn s + pooled_sum qIn js)) (f + (freedom_in s + pooled_sum freedom_in js))
         (cond (eqb a (suc i)) (suc i + cond u (suc (alike_jobs v b js)) 0) a) (suc i + suc (length js)))
         (no_pool (w ⨾ first_bad js) (suc i + given w (suc (bad_job js)) 0))
-    by Accepted e rest =
+    by (Ok done) e rest =
         ap (λ (x : Sums). pooled_from (suc (suc i)) x js) (later s e v b vb Q f a i)
         ∙ rest
         ∙ λ j. given (first_bad js) (ended vb (sums Q (qIn s) (pooled_sum qIn js) j) (sums f (freedom_in s) (pooled_sum freedom_in js) j)
         (after_one a (suc i) (alike_jobs v b js) u m j) (on (length js) j)) (no_pool (first_bad js) (on (bad_job js) j))
-    by (Refused k at) e rest = λ j. no_pool (refused k at) (plus_none (suc i) j)
+    by (Err why) e rest = λ j. no_pool (refused why.number why.place) (plus_none (suc i) j)
 
 -- ---- all jobs
 
@@ -259,8 +240,8 @@ report_is s js few = by (read_verdict s) refl
 
     rest : read_verdict s ≡ accepted → (w : Verdict) → first_bad js ≡ w →
         given w (ended (vbeta_in s) Q f odd (suc (length js))) (no_pool w (suc (bad_job js))) ≡ told w (eqb odd (suc (length js)))
-    rest e Accepted g = kind (eqb odd (suc (length js))) (pooled_ranged s js (accepts e g) e few)
-    rest e (Refused k at) g = refl
+    rest e (Ok done) g = kind (eqb odd (suc (length js))) (pooled_ranged s js (accepts e g) e few)
+    rest e (Err why) g = refl
 
     by : (w : Verdict) → read_verdict s ≡ w →
         given w (pooled_from 1 (with_job no_sums 0 (worked_job s)) js) (no_pool w 0) ≡ record {
@@ -268,10 +249,10 @@ report_is s js few = by (read_verdict s) refl
           index = given (w ⨾ first_bad js) (given (test (eqb odd (suc (length js))) 17 0) 0 odd) (given w (suc (bad_job js)) 0);
           spreading = given (w ⨾ first_bad js ⨾ test (eqb odd (suc (length js))) 17 0) spreads no_spreading;
         }
-    by Accepted e =
+    by (Ok done) e =
         ap (λ (x : Sums). pooled_from 1 x js) (first s e)
         ∙ from_later js 0 (vIn s) b (vbeta_in s) (qIn s) (freedom_in s) 1 (omega arith)
         ∙ (λ j. given (first_bad js) (ended (vbeta_in s) Q f ((next (alike_jobs (vIn s) b js) ∙ own (alike_jobs (vIn s) b js)) j) (next (length js) j))
         (no_pool (first_bad js) (next (bad_job js) j)))
         ∙ rest e (first_bad js) refl
-    by (Refused k at) e = refl
+    by (Err why) e = refl

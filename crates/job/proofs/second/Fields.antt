@@ -1,39 +1,23 @@
 -- The verdict on a file of the second edition, by the first of its tests that refuses, or by none; what is handed back under it; and the part of the file
 -- that the four fields are. Assumes nothing.
+use Rattle.std.proofs.Common.{Ok, Err}
 use Prim.Native.Nat.{ℕ, ◌+◌, ◌-◌, ◌≤◌, ◌<◌}
 use mathlib.Core.Path.{◌≡◌, refl, sym, ap, ◌∙◌}
 use mathlib.Core.Bool.{true, false}
-use mathlib.Core.List.{List}
+use mathlib.Core.List.{List, []}
 use native.Mathlib.Omega.{arith}
-use borrow.Author.Tests.{le-leb, lt-leb, eq-eqb, ne_eqb}
+use borrow.Author.Tests.{le-leb}
 use lib.IntN.{ℤ}
 use lib.ListN.{length, take, drop, drop_of_length-le}
 use Rattle.records.specs.declared.Head.{Head}
 use Rattle.records.specs.declared.Held.{Held}
+use Rattle.records.specs.declared.Refusal.{Refusal}
 use Rattle.records.specs.declared.SecondRead.{SecondRead}
 use Rattle.records.specs.declared.Solved.{Solved}
-use Rattle.records.specs.declared.Verdict.{Verdict}
-use Rattle.records.specs.declared.Verdict.TheVariants.{Accepted, Refused}
-use Rattle.meaning.specs.Refusals.{accepted, refused}
+use Rattle.meaning.specs.Refusals.{Verdict, accepted}
 use Rattle.meaning.specs.Calls.{given, solved_under, words_under, values_under, deviations_under}
-use Rattle.meaning.specs.File.{big, head_of, blocks_of, readings_of, set_of, sum_of, fields, solve_verdict}
-use Rattle.meaning.specs.Edition2.{
-  file_limit2,
-  start_at,
-  edition,
-  four_of,
-  moved_on,
-  names_tag,
-  names_length,
-  optional_at,
-  optionals,
-  optional_fields,
-  names_at,
-  fields2,
-  read_verdict2,
-  read_answer2,
-  solve_verdict2,
-}
+use Rattle.meaning.specs.File.{head_of, blocks_of, readings_of, set_of, sum_of, fields, solve_verdict}
+use Rattle.meaning.specs.Edition2.{file_limit2, edition, four_of, moved_on, names_tag, names_length, optional_at, optionals, optional_fields, names_at, fields2, read_verdict2, read_answer2, solve_verdict2}
 use Rattle.laws.proofs.Edition2.{four-part, given-moved, solve_moved2}
 use Rattle.verdicts.specs.Zeros.{no_job, no_solution}
 use Rattle.verdicts.proofs.Told.{refusing}
@@ -45,40 +29,24 @@ pub part-is : (s : List ℕ) (end : ℕ) → end ≡ optional_at s → take (end
 part-is s end e = let c : end - 4 ≡ length (four_of s) = omega (arith, e) in ap (λ (i : ℕ). take i (drop 4 s)) c ∙ four-part s
 
 -- where there are fewer bytes nothing stands in them
-pub nothing_there : (s : List ℕ) → length s < 4 → set_of (four_of s) ≡ 0
-unfolding four_of big
+pub nothing_there : (s : List ℕ) → length s < 4 → four_of s ≡ []
+unfolding four_of
 nothing_there s l = rw (drop_of_length-le s {i = 4} (omega arith)) refl
-
--- ---- moving, by the number
-
-pub moved-six : (k at : ℕ) → k ≡ 6 → refused k at ≡ moved_on (refused k at)
-moved-six k at e = rw (eq-eqb k 6 e) refl
-
-pub moved-ten : (k at : ℕ) → (k ≡ 6 → ⊥) → k ≡ 10 → refused k at ≡ moved_on (refused k at)
-moved-ten k at n e = rw (ne_eqb k 6 n, eq-eqb k 10 e) refl
-
-pub moved_else : (k at : ℕ) → (k ≡ 6 → ⊥) → (k ≡ 10 → ⊥) → refused k (4 + at) ≡ moved_on (refused k at)
-moved_else k at n m = rw (ne_eqb k 6 n, ne_eqb k 10 m) refl
 
 -- ---- the fields
 
 module _ (s : List ℕ) where
-  -- too long
-  pub too_long : file_limit2 < length s → fields2 s ≡ refused 4 0
-  unfolding fields2
-  too_long l = rw (lt-leb (length s) file_limit2 l) refl
-
   module _ (short : length s ≤ file_limit2) where
     -- the edition is refused
-    pub edition_refuses : (v : Verdict) → v ≡ edition s → given v false true ≡ true → v ≡ fields2 s
+    pub edition_refuses : (why : Refusal) → edition s ≡ Err why → fields2 s ≡ Err why
     unfolding fields2
-    edition_refuses v e r = let f = sym e ∙ refusing v r in rw (le-leb (length s) file_limit2 short, f) (refusing v r)
+    edition_refuses why e = rw (le-leb (length s) file_limit2 short, e) refl
 
     module _ (there : edition s ≡ accepted) where
       -- one of the four fields is
-      pub four_refuses : (v : Verdict) → v ≡ moved_on (fields (four_of s)) → given v false true ≡ true → v ≡ fields2 s
+      pub four_refuses : (why : Refusal) → moved_on (fields (four_of s)) ≡ Err why → fields2 s ≡ Err why
       unfolding fields2
-      four_refuses v e r = let f = sym e ∙ refusing v r in rw (le-leb (length s) file_limit2 short, there, f) (refusing v r)
+      four_refuses why e = rw (le-leb (length s) file_limit2 short, there, e) refl
 
       -- none is, and the optional ones count
       pub optional-counts : moved_on (fields (four_of s)) ≡ accepted → fields2 s ≡ optional_fields s
@@ -92,9 +60,9 @@ module _ (s : List ℕ) where
   optional-is names end a b = rw (a, b) refl
 
   -- refused fields refuse the file
-  pub fields_refuse : (v : Verdict) → v ≡ fields2 s → given v false true ≡ true → v ≡ read_verdict2 s
+  pub fields_refuse : (why : Refusal) → fields2 s ≡ Err why → read_verdict2 s ≡ Err why
   unfolding read_verdict2
-  fields_refuse v e r = let f = sym e ∙ refusing v r in rw f (refusing v r)
+  fields_refuse why e = rw e refl
 
   -- ---- what reading hands back
 
@@ -140,8 +108,8 @@ module _ (s : List ℕ) where
   -- the record of a job worked out, with its verdict moved
   solved-moved : (verdict : Verdict) (h : Head) (d : List ℕ) (y : List ℤ) (w : ℕ) →
       solved_on (solved_under verdict h d y w) ≡ solved_under (moved_on verdict) h d y w
-  solved-moved Accepted h d y w = refl
-  solved-moved (Refused k at) h d y w = refl
+  solved-moved (Ok done) h d y w = refl
+  solved-moved (Err why) h d y w = refl
 
   -- accepted fields: solving the four fields, with its verdict moved, is solving the file
   module _ (there : fields2 s ≡ accepted) (words values deviations : ℕ) (r q : Solved) (l left : List ℕ) (x ended z after : List ℤ) where

@@ -1,4 +1,5 @@
 -- How large the place of a refusal of a file of the first edition is, so that it can be moved. Assumes nothing.
+use Rattle.std.proofs.Common.{Ok, Err}
 use Prim.Native.Nat.{ℕ, ◌+◌, ◌*◌, ◌≤◌}
 use mathlib.Core.Path.{◌≡◌, refl, sym, ap}
 use mathlib.Core.Bool.{Bool, true, false, ◌||◌}
@@ -6,10 +7,8 @@ use mathlib.Core.List.{List}
 use native.Mathlib.Omega.{arith}
 use lib.Dec.{eqb, leb}
 use lib.ListN.{length, get_or}
-use Rattle.records.specs.declared.Verdict.{Verdict}
-use Rattle.records.specs.declared.Verdict.TheVariants.{Accepted, Refused}
 use Rattle.meaning.specs.Design.{objects, blocks, list_length, sized}
-use Rattle.meaning.specs.Refusals.{accepted, refused, place, test, ◌⨾◌, sizes}
+use Rattle.meaning.specs.Refusals.{Verdict, accepted, refused, place, test, ◌⨾◌, sizes}
 use Rattle.meaning.specs.Calls.{rooms}
 use Rattle.meaning.specs.File.{big, field_verdict, head_of, second_at, third_at, fourth_at, end_at, fields, placed, read_verdict, solve_verdict}
 use Rattle.laws.proofs.Chains.{opened}
@@ -20,8 +19,8 @@ use Rattle.job.proofs.reading.Directly.{direct-near, read-direct}
 
 -- the place of a chain: that of its first part, or, where it accepts, that of the next
 next_place : (a b : Verdict) (most : ℕ) → place a ≤ most → (a ≡ accepted → place b ≤ most) → place (a ⨾ b) ≤ most
-next_place Accepted b most p q = q refl
-next_place (Refused k at) b most p q = p
+next_place (Ok done) b most p q = q refl
+next_place (Err why) b most p q = p
 
 test-place : (t : Bool) (k at : ℕ) → place (test t k at) ≤ at
 test-place true k at = omega arith
@@ -63,10 +62,10 @@ fields-place s =
 
 -- a moved place is within the readings, four bytes each
 placed-most : (s : List ℕ) (v : Verdict) → third_at s ≤ 3210 → place v ≤ place_limit → place (placed s v) ≤ 30000
-placed-most s Accepted t l = omega arith
-placed-most s (Refused k i) t l = by (eqb k 5) (eqb k 7 || eqb k 11) (eqb k 8) refl refl refl
+placed-most s (Ok done) t l = omega arith
+placed-most s (Err why) t l = by (eqb why.number 5) (eqb why.number 7 || eqb why.number 11) (eqb why.number 8) refl refl refl
   where
-    by : (a b c : Bool) → eqb k 5 ≡ a → eqb k 7 || eqb k 11 ≡ b → eqb k 8 ≡ c → place (placed s (refused k i)) ≤ 30000
+    by : (a b c : Bool) → eqb why.number 5 ≡ a → eqb why.number 7 || eqb why.number 11 ≡ b → eqb why.number 8 ≡ c → place (placed s (refused why.number why.place)) ≤ 30000
     by true b c e f g = rw e (omega arith)
     by false true c e f g = rw (e, f) (omega arith)
     by false false true e f g = rw (e, f, g) (omega arith)

@@ -1,4 +1,5 @@
 -- A direct call that is handed what a file holds leaves what the file makes, and its verdict, moved, is that of solving. Assumes nothing.
+use Rattle.std.proofs.Common.{Ok, Err}
 use Prim.Native.Nat.{ℕ, ◌≤◌}
 use mathlib.Core.Path.{◌≡◌, refl, sym, ap, ◌∙◌}
 use mathlib.Core.Bool.{true, false}
@@ -7,9 +8,7 @@ use native.Mathlib.Omega.{arith}
 use lib.IntN.{ℤ}
 use Rattle.records.specs.declared.Head.{Head}
 use Rattle.records.specs.declared.Solved.{Solved}
-use Rattle.records.specs.declared.Verdict.{Verdict}
-use Rattle.records.specs.declared.Verdict.TheVariants.{Accepted, Refused}
-use Rattle.meaning.specs.Refusals.{accepted, place}
+use Rattle.meaning.specs.Refusals.{Verdict, accepted, place}
 use Rattle.meaning.specs.Calls.{given, analyse_verdict, solved_under, words_under, values_under, deviations_under}
 use Rattle.meaning.specs.File.{head_of, blocks_of, set_of, sum_of, readings_of, fields, placed, read_verdict, solve_verdict}
 use Rattle.laws.proofs.Files.{solve_moved}
@@ -30,8 +29,8 @@ solved-placed : (s : List ℕ) (verdict : Verdict) (h : Head) (d : List ℕ) (y 
       spreading = (solved_under verdict h d y w).spreading;
     }
     ≡ solved_under (placed s verdict) h d y w
-solved-placed s Accepted h d y w = refl
-solved-placed s (Refused k at) h d y w = refl
+solved-placed s (Ok done) h d y w = refl
+solved-placed s (Err why) h d y w = refl
 
 module _ (s : List ℕ) (there : fields s ≡ accepted) (words values deviations : ℕ) where
   -- the verdict of the direct call on what the file holds

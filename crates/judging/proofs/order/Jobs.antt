@@ -5,8 +5,7 @@ use mathlib.Core.List.{List}
 use Prim.Native.Nat.{ℕ}
 use lib.IntN.{ℤ}
 use Rattle.records.specs.declared.Head.{Head}
-use Rattle.records.specs.declared.Verdict.{Verdict}
-use Rattle.meaning.specs.Refusals.{◌⨾◌, accepted, refused, number, place, in_balance, restraint, in_reach}
+use Rattle.meaning.specs.Refusals.{Verdict, ◌⨾◌, accepted, refused, number, place, in_balance, restraint, in_reach}
 use Rattle.meaning.specs.Calls.{given, slices, contents, job_verdict, judge_verdict, judged}
 use Rattle.laws.proofs.Chains.{goes_on, refused_stays}
 use Rattle.verdicts.proofs.Told.{refusing}

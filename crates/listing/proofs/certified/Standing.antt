@@ -1,5 +1,6 @@
 -- What was worked out gives the certificate of the file: where the numbers in hand are those of the job, each line is that of the definition. Assumes
 -- nothing.
+use Rattle.std.proofs.Common.{Ok, Err}
 use mathlib.Core.Path.{◌≡◌, refl, sym, ap, ◌∙◌}
 use mathlib.Core.List.{List, ◌++◌, append_assoc, replicate}
 use Prim.Native.Nat.{ℕ, ◌≤◌, ◌<◌}
@@ -13,13 +14,11 @@ use Rattle.records.specs.declared.Head.{Head}
 use Rattle.records.specs.declared.JobRead.{JobRead}
 use Rattle.records.specs.declared.SecondRead.{SecondRead}
 use Rattle.records.specs.declared.Solved.{Solved}
-use Rattle.records.specs.declared.Verdict.{Verdict}
-use Rattle.records.specs.declared.Verdict.TheVariants.{Accepted, Refused}
 use Rattle.meaning.specs.Design.{objects, parameters_of}
-use Rattle.meaning.specs.Analysis.{member, restrained, numerator_of, denominator_of, vbeta, qOf, freedom}
+use Rattle.meaning.specs.Analysis.{member, numerator_of, denominator_of, vbeta, qOf, freedom}
 use Rattle.meaning.specs.Publishing.{published}
 use Rattle.meaning.specs.Wide.{value, wide}
-use Rattle.meaning.specs.Refusals.{accepted, sum_limit}
+use Rattle.meaning.specs.Refusals.{Verdict, accepted, sum_limit}
 use Rattle.meaning.specs.Calls.{given, job_verdict, values_under, spreading_of, solved_under}
 use Rattle.meaning.specs.File.{head_of, blocks_of, readings_of, set_of, sum_of, read_verdict, read_answer, solve_verdict}
 use Rattle.meaning.specs.Text.{digits, each}
@@ -43,12 +42,11 @@ use Rattle.laws.proofs.Files.{file-job}
 use Rattle.laws.proofs.Edition2.{file_job2}
 use Rattle.arithmetic.specs.Uncertainties.{uncertainty_in}
 use Rattle.analysis.specs.Column.{hundredths_from, column_of}
-use Rattle.analysis.specs.Worked.{factor_in}
 use Rattle.analysis.proofs.Column.{column-published}
 use Rattle.analysis.proofs.values.Refusing.{factor-is}
 use Rattle.analysis.proofs.uncertainty.Stating.{uncertainty_of_job}
 use Rattle.printing.proofs.Each.{each_same}
-use Rattle.listing.specs.Certified.{heading_text, weight_at, weight_lines, sums_text, spread_lines, certified_lines, certified_under, certified_text}
+use Rattle.listing.specs.Certified.{heading_text, weight_at, weight_lines, certified_lines, certified_text}
 use Rattle.listing.proofs.whole.Worked.{rooms_enough, rooms_enough2}
 
 -- two figures, and two more, among what stands before and after
@@ -121,13 +119,13 @@ module _ (four s : List ℕ) (names : ℕ) (values : List ℤ) (f : length value
       certified_text s names (take (answer v).parameters.v (column_of (left v) (answer v).denominator (given v (set_of four) 0))) (answer v)
       (given v (set_of four) 0) (given v (sum_of four) (pos 0)) ≡ certificate_under v four (name_from s names)
   unfolding certified_text
-  text Accepted e = job-certified (head_of four) (blocks_of four) (readings_of four) (set_of four) (sum_of four) (file-job four (e refl)).1 values f s names
-  text (Refused k at) e = refl
+  text (Ok done) e = job-certified (head_of four) (blocks_of four) (readings_of four) (set_of four) (sum_of four) (file-job four (e refl)).1 values f s names
+  text (Err why) e = refl
 
 -- the sum that was read is in its range
 sum-small : (four : List ℕ) (v : Verdict) → (v ≡ accepted → read_verdict four ≡ accepted) → nat_abs (given v (sum_of four) (pos 0)) ≤ sum_limit
-sum-small four Accepted e = (job _ _ _ _ _ (file-job four (e refl)).1).restraint.sum-most
-sum-small four (Refused k at) e = omega arith
+sum-small four (Ok done) e = (job _ _ _ _ _ (file-job four (e refl)).1).restraint.sum-most
+sum-small four (Err why) e = omega arith
 
 -- ---- any byte string
 
@@ -170,8 +168,8 @@ module _ (s : List ℕ) where
       (answer (four_of s) s 0 zeros refl v) (given v (set_of (four_of s)) 0) (given v (sum_of (four_of s)) (pos 0)) ≡
       certificate_under v (four_of s) (name_from s (names_at s))
   unfolding certified_text
-  text2 Accepted e = text (four_of s) s (names_at s) zeros refl Accepted e
-  text2 (Refused k at) e = refl
+  text2 (Ok done) e = text (four_of s) s (names_at s) zeros refl accepted e
+  text2 (Err why) e = refl
 
   pub certificate_is2 : {r : Solved} {after : List ℤ} {found : SecondRead} →
       r ≡ solved_under verdict2 (head_of (four_of s)) (blocks_of (four_of s)) (readings_of (four_of s)) (set_of (four_of s)) →

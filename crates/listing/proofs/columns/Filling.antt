@@ -1,12 +1,11 @@
--- What a text leaves of its column, found by a dry run; and the eight bytes of a name, which may end before. Assumes nothing.
-use mathlib.Core.Path.{◌≡◌, refl, sym, ap, ◌∙◌}
-use mathlib.Core.List.{List, []}
-use Prim.Native.Nat.{ℕ, zero, suc, ◌+◌, ◌-◌, ◌*◌, ◌/◌, ◌≤◌, ◌<◌}
+-- What a text leaves of its column, found by a dry run; and the eight bytes of a name. Assumes nothing.
+use mathlib.Core.Path.{◌≡◌, refl}
+use mathlib.Core.List.{List}
+use Prim.Native.Nat.{ℕ, zero, suc, ◌+◌, ◌-◌, ◌*◌, ◌≤◌, ◌<◌}
 use native.Mathlib.Nat.{lt_of_not-le}
 use native.Mathlib.Decide.{dec_le}
 use native.Mathlib.Omega.{arith}
-use lib.ListN.{length, take, drop, length-drop, drop_of_length-le}
-use lib.Seq.{take_all}
+use lib.ListN.{length, take, drop}
 use Rattle.algebra.specs.Buffers.{Wrote}
 use Rattle.algebra.proofs.Writing.{counts, measured}
 use Rattle.meaning.specs.Text.{name_text}
@@ -20,15 +19,6 @@ left_is width {one} {one'} {text} {n} small dry = by (dec_le (length text) width
     by (yes l) k = omega (arith, counts dry (omega arith))
     by (no f) (yes k) = absurd (omega (arith, lt_of_not-le f, measured dry (omega arith)))
     by (no f) (no k) = omega (arith, lt_of_not-le f, lt_of_not-le k)
-
--- where a name starts that is not there: the end of the bytes does as well
-pub past_end : (s : List ℕ) (start : ℕ) → length s ≤ start → drop (length s) s ≡ drop start s
-past_end s start l = drop_of_length-le s {i = length s} (omega arith) ∙ sym (drop_of_length-le s l)
-
--- a name that is cut short by the end of the bytes
-pub cut_short : (s : List ℕ) (start : ℕ) → start ≤ length s → length s - start < 8 → take (length s - start) (drop start s) ≡ take 8 (drop start s)
-cut_short s start l m =
-    take_all (length s - start) (drop start s) (omega (arith, length-drop start s)) ∙ sym (take_all 8 (drop start s) (omega (arith, length-drop start s)))
 
 -- the name of an object, where there are names
 pub name_there : (s : List ℕ) (names i : ℕ) → 0 < names → name_from s names i ≡ name_text (take 8 (drop (names + 8 * i) s))

@@ -1,5 +1,6 @@
 -- What was worked out gives the text of the file: where the numbers in hand are those of the job, each line of `sheet` is the line of the definition.
 -- Assumes nothing.
+use Rattle.std.proofs.Common.{Ok, Err}
 use mathlib.Core.Path.{◌≡◌, refl, sym, ◌∙◌}
 use mathlib.Core.List.{List, ◌++◌}
 use Prim.Native.Nat.{ℕ, ◌*◌, ◌≤◌, ◌<◌}
@@ -12,12 +13,10 @@ use Rattle.algebra.specs.Buffers.{over}
 use Rattle.algebra.proofs.Filling.{length_over, get_d_over}
 use Rattle.records.specs.declared.Head.{Head}
 use Rattle.records.specs.declared.Solved.{Solved}
-use Rattle.records.specs.declared.Verdict.{Verdict}
-use Rattle.records.specs.declared.Verdict.TheVariants.{Accepted, Refused}
 use Rattle.meaning.specs.Design.{objects, blocks, parameters_of}
 use Rattle.meaning.specs.Analysis.{vbeta, numerator_of, denominator_of, deviation_of}
 use Rattle.meaning.specs.Publishing.{published}
-use Rattle.meaning.specs.Refusals.{accepted, ◌⨾◌}
+use Rattle.meaning.specs.Refusals.{Verdict, accepted, ◌⨾◌}
 use Rattle.meaning.specs.Calls.{job_verdict, values_under, deviations_under, spreading_of, rooms, solved_under}
 use Rattle.meaning.specs.File.{head_of, blocks_of, readings_of, set_of, sum_of, read_verdict, solve_verdict}
 use Rattle.meaning.specs.Text.{each, design_line, value_line, dev_line, spread_line, job_text, text_under, text_of}
@@ -93,24 +92,24 @@ module _ (s : List ℕ) where
 
   -- there are at most 50 objects and 1,300 blocks
   few : (v : Verdict) → read_verdict s ≡ v → ((answer v).parameters.v ≤ 50) × ((answer v).parameters.b ≤ 1300)
-  few Accepted e = ((file-sizes e).objects-most, (file-sizes e).blocks-most)
-  few (Refused k place) e = (omega arith, omega arith)
+  few (Ok done) e = ((file-sizes e).objects-most, (file-sizes e).blocks-most)
+  few (Err why) e = (omega arith, omega arith)
 
   -- the rooms stay as long as they are
   left-long : (v : Verdict) (values deviations : List ℤ) →
       (length (values_left v values) ≡ length values) × (length (deviations_left v deviations) ≡ length deviations)
-  left-long Accepted values deviations = (length_over _ _ values, length_over _ _ deviations)
-  left-long (Refused k place) values deviations = (refl, refl)
+  left-long (Ok done) values deviations = (length_over _ _ values, length_over _ _ deviations)
+  left-long (Err why) values deviations = (refl, refl)
 
   -- the text of the first numbers is the text of the file
   first-text : (values deviations : List ℤ) → length values ≡ 50 → 1300 ≤ length deviations → (v : Verdict) → read_verdict s ≡ v →
       sheet_text (answer v) (take (answer v).parameters.v (values_left v values)) (column_of (values_left v values) (answer v).denominator (set_of s))
       (take (answer v).parameters.b (deviations_left v deviations)) ≡ text_under v s
   unfolding sheet_text
-  first-text values deviations lv ld Accepted e =
+  first-text values deviations lv ld (Ok done) e =
       job-lines (head_of s) (blocks_of s) (readings_of s) (set_of s) (sum_of s) (file-job s e).1 values deviations lv
       (omega (arith, (file-sizes e).objects-most)) (omega (arith, (file-sizes e).blocks-most))
-  first-text values deviations lv ld (Refused k place) e = refl
+  first-text values deviations lv ld (Err why) e = refl
 
   module _ (words : List ℕ) (values deviations : List ℤ) (lw : 2600 ≤ length words) (lv : length values ≡ 50) (ld : 1300 ≤ length deviations) where
     abbrev verdict : Verdict
@@ -122,13 +121,13 @@ module _ (s : List ℕ) where
     rooms_enough = by (read_verdict s) refl
       where
         by : (v : Verdict) → read_verdict s ≡ v → v ⨾ rooms (head_of s) (length words) (length values) (length deviations) ≡ v
-        by Accepted e =
+        by (Ok done) e =
             rw (
               le-leb (2 * blocks (head_of s)) (length words) (omega (arith, (file-sizes e).blocks-most)),
               le-leb (objects (head_of s)) (length values) (omega (arith, (file-sizes e).objects-most)),
               le-leb (blocks (head_of s)) (length deviations) (omega (arith, (file-sizes e).blocks-most)),
             ) refl
-        by (Refused k place) e = refl
+        by (Err why) e = refl
 
     module _ {r : Solved} {after after' : List ℤ} (says : r ≡ answer verdict) (first : after ≡ values_left verdict values)
         (second : after' ≡ deviations_left verdict deviations) where
@@ -156,16 +155,16 @@ module _ (s : List ℕ) where
   four-accepts v e f = (file_job2 s (e ∙ f)).1
 
   few2 : (v : Verdict) → read_verdict2 s ≡ v → ((answer four v).parameters.v ≤ 50) × ((answer four v).parameters.b ≤ 1300)
-  few2 Accepted e = few four Accepted (four-accepts Accepted e refl)
-  few2 (Refused k place) e = (omega arith, omega arith)
+  few2 (Ok done) e = few four accepted (four-accepts accepted e refl)
+  few2 (Err why) e = (omega arith, omega arith)
 
   first_text2 : (values deviations : List ℤ) → length values ≡ 50 → 1300 ≤ length deviations → (v : Verdict) → read_verdict2 s ≡ v →
       sheet_text (answer four v) (take (answer four v).parameters.v (values_left four v values))
       (column_of (values_left four v values) (answer four v).denominator (set_of four))
       (take (answer four v).parameters.b (deviations_left four v deviations)) ≡ text_under v four
   unfolding sheet_text
-  first_text2 values deviations lv ld Accepted e = first-text four values deviations lv ld Accepted (four-accepts Accepted e refl)
-  first_text2 values deviations lv ld (Refused k place) e = refl
+  first_text2 values deviations lv ld (Ok done) e = first-text four values deviations lv ld accepted (four-accepts accepted e refl)
+  first_text2 values deviations lv ld (Err why) e = refl
 
   module _ (words : List ℕ) (values deviations : List ℤ) (lw : 2600 ≤ length words) (lv : length values ≡ 50) (ld : 1300 ≤ length deviations) where
     abbrev verdict2 : Verdict
@@ -177,10 +176,10 @@ module _ (s : List ℕ) where
     rooms_enough2 = by (read_verdict2 s) refl
       where
         by : (v : Verdict) → read_verdict2 s ≡ v → v ⨾ rooms (head_of four) (length words) (length values) (length deviations) ≡ v
-        by Accepted e =
-            let f = four-accepts Accepted e refl in
+        by (Ok done) e =
+            let f = four-accepts accepted e refl in
             sym (goes_on (rooms (head_of four) (length words) (length values) (length deviations)) f) ∙ rooms_enough four words values deviations lw lv ld ∙ f
-        by (Refused k place) e = refl
+        by (Err why) e = refl
 
     module _ {r : Solved} {after after' : List ℤ} (says : r ≡ answer four verdict2) (first : after ≡ values_left four verdict2 values)
         (second : after' ≡ deviations_left four verdict2 deviations) where

@@ -1,6 +1,6 @@
 -- The text of hundredths with a sign by the test `x < 0`. Assumes nothing.
 use mathlib.Core.Path.{◌≡◌, refl}
-use mathlib.Core.Bool.{true, false, true≢false}
+use mathlib.Core.Bool.{true}
 use mathlib.Core.List.{◌∷◌}
 use native.Mathlib.Omega.{arith}
 use borrow.Author.Tests.{ltb-true}
@@ -12,8 +12,3 @@ use Rattle.meaning.specs.Certificate.{two_decimals, counts_text}
 pub counts-below : (z : ℤ) → lt_z z (pos 0) ≡ true → counts_text z ≡ 45 ∷ two_decimals (nat_abs z)
 counts-below (pos n) e = absurd (omega (arith, ltb-true n 0 e))
 counts-below (negsuc n) e = refl
-
--- from 0 on: the text of its size
-pub counts-above : (z : ℤ) → lt_z z (pos 0) ≡ false → counts_text z ≡ two_decimals (nat_abs z)
-counts-above (pos n) e = refl
-counts-above (negsuc n) e = absurd (true≢false e)

@@ -9,9 +9,9 @@ use native.Mathlib.Decide.{dec_le}
 use native.Mathlib.Nat.{lt_of_not-le}
 use borrow.Author.Tests.{lt-ltb, le-ltb}
 use lib.IntN.{ℤ, pos}
-use lib.Dec.{eqb}
 use lib.ListN.{length, get_or, set, length-append, length-set, get_or-append}
 use lib.Seq.{set_out, get_or-append_seam}
+use Rattle.std.specs.Prelude.{Option, Some, None, is_some, unwrap_or}
 use Rattle.records.specs.declared.SheetSpread.{SheetSpread}
 use Rattle.records.specs.declared.SheetRead.{SheetRead}
 use Rattle.algebra.specs.Buffers.{over}
@@ -42,11 +42,11 @@ use Rattle.meaning.specs.SheetText.{
 -- ---- how many claims
 
 -- whatever the tests of a line say: what is counted with it is what it adds
-by_tests : (on value claims spread new : Bool) (k : ℕ) (r : SheetRead) (q : SheetSpread) (x : ℤ) →
+by_tests : (on value claims spread new : Bool) (k : ℕ) (r : SheetRead) (q : Option SheetSpread) (x : ℤ) →
     (cond on
     (cond value
-    (cond claims (record { line = 0; count = r.count + 1; spread = r.spread }) (unread k r))
-    (cond spread (cond new (record { line = 0; count = r.count; spread = q }) (unread k r)) r))
+    (cond claims (record { line = None; count = r.count + 1; spread = r.spread }) (unread k r))
+    (cond spread (cond new (record { line = None; count = r.count; spread = q }) (unread k r)) r))
     r).count
     ≡ r.count + length (cond (on && (value && claims)) (x ∷ []) [])
 by_tests true true true spread new k r q x = omega arith
@@ -58,8 +58,8 @@ by_tests false value claims spread new k r q x = omega arith
 
 with_count : (k : ℕ) (l : List ℕ) (r : SheetRead) → (with_line k l r).count ≡ r.count + length (added l r)
 unfolding with_line with_value with_spread added
-with_count k l r = by_tests (eqb r.line 0) (same (word_of 0 l) (ascii "value")) (claim_of r.count l).read (same (word_of 0 l) (ascii "spread"))
-    (not r.spread.read && (spread_of l).read) k r (spread_of l) (claim_of r.count l).number
+with_count k l r = by_tests (not (is_some r.line)) (same (word_of 0 l) (ascii "value")) (is_some (claim_of r.count l)) (same (word_of 0 l) (ascii "spread"))
+    (not (is_some r.spread) && is_some (spread_of l)) k r (spread_of l) (unwrap_or (claim_of r.count l) (pos 0))
 
 -- as many claims as were counted
 pub counted : (k : ℕ) (s : List ℕ) → length (claims_to k s) ≡ (read_to k s).count
@@ -73,9 +73,9 @@ counted (suc k) s =
 -- a line adds one at most
 one-most : (l : List ℕ) (r : SheetRead) → length (added l r) ≤ 1
 unfolding added
-one-most l r = by (eqb r.line 0 && (same (word_of 0 l) (ascii "value") && (claim_of r.count l).read))
+one-most l r = by (not (is_some r.line) && (same (word_of 0 l) (ascii "value") && (is_some (claim_of r.count l))))
   where
-    by : (t : Bool) → length (cond t ((claim_of r.count l).number ∷ []) []) ≤ 1
+    by : (t : Bool) → length (cond t ((unwrap_or (claim_of r.count l) (pos 0)) ∷ []) []) ≤ 1
     by true = omega arith
     by false = omega arith
 
@@ -145,14 +145,14 @@ pub nothing-laid : (s : List ℕ) (out : List ℤ) → out ≡ laid (claims_to 0
 unfolding claims_to laid over
 nothing-laid s out = refl
 
-pub nothing_yet : (s : List ℕ) → nothing_read 0 ≡ read_to 0 s
+pub nothing_yet : (s : List ℕ) → nothing_read None ≡ read_to 0 s
 unfolding read_to
 nothing_yet s = refl
 
 -- ---- a whole text
 
 module _ (s : List ℕ) (long : 65536 < length s) where
-  pub long-read : nothing_read 1 ≡ sheet_of s
+  pub long-read : nothing_read (Some 1) ≡ sheet_of s
   unfolding sheet_of
   long-read = rw (lt-ltb 65536 (length s) long)
 

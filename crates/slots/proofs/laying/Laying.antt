@@ -1,51 +1,47 @@
--- What is lent after a loop that lays slots from the front, one a turn: after i turns the first i lie over it. For slots of any kind, and for
--- a table's entries.
---     none     a refusal lays none
---     all      a loop that has come to the last slot
---     full     one that has come to the end of what is lent
+-- What is lent after slots are laid from the front, as many as there are and as it holds: slots of any kind, and entries by their number.
 -- Assumes nothing.
-use mathlib.Core.Path.{◌≡◌, refl, sym, ap, ◌∙◌}
-use mathlib.Core.List.{List, [], ◌∷◌}
-use Prim.Native.Nat.{ℕ, ◌≤◌}
-use lib.ListN.{length, get_or}
+use Rattle.std.proofs.Common.{Ok, Err}
+use mathlib.Core.Path.{◌≡◌, refl, ap, ◌∙◌}
+use mathlib.Core.List.{List, [], ◌∷◌, ◌++◌}
+use mathlib.Core.Bool.{Bool, true}
+use Prim.Native.Nat.{ℕ, suc, zero, min}
+use native.Mathlib.Omega.{arith}
+use lib.ListN.{length, take, drop}
+use Rattle.std.specs.Result.{is_ok}
 use Rattle.algebra.specs.Buffers.{over}
-use Rattle.algebra.proofs.Filling.{over_full, over-end}
-use Rattle.records.specs.declared.Verdict.{Verdict}
-use Rattle.meaning.specs.Refusals.{accepted, refused}
-use Rattle.meaning.specs.Calls.{given, written}
-use Rattle.laws.proofs.Chains.{given_yes, given_no}
+use Rattle.meaning.specs.Refusals.{Verdict}
+use Rattle.meaning.specs.Calls.{written}
 use Rattle.slots.specs.Laid.{onto, laid}
 
--- entries that are written by their number
-module _ {A : Type 0} (verdict : Verdict) (count : ℕ) (f : ℕ → A) (lent : List A) where
-  pub none_written : (k at : ℕ) → verdict ≡ refused k at → lent ≡ written verdict count f lent
-  none_written k at e = sym (given_no verdict (over count f lent) lent k at e)
+-- as many as there are and as it holds
+front : {A : Type 0} (slots lent : List A) (k : ℕ) → k ≡ min (length slots) (length lent) → take k slots ++ drop k lent ≡ onto slots lent
+unfolding onto
+front [] lent zero e = refl
+front [] lent (suc k) e = absurd (omega arith)
+front (x ∷ slots) [] zero e = refl
+front (x ∷ slots) [] (suc k) e = absurd (omega arith)
+front (x ∷ slots) (y ∷ lent) zero e = absurd (omega arith)
+front {A = A} (x ∷ slots) (y ∷ lent) (suc k) e = ap (λ (l : List A). x ∷ l) (front slots lent k (omega arith))
 
-  module _ (accepts : verdict ≡ accepted) {i : ℕ} {after : List A} (so_far : after ≡ over i f lent) where
-    pub all-written : i ≡ count → after ≡ written verdict count f lent
-    all-written e = over-end f lent so_far e ∙ sym (given_yes verdict (over count f lent) lent accepts)
+-- under a verdict that accepts
+pub laid_front : {A : Type 0} (verdict : Verdict) (slots lent : List A) {k : ℕ} {part : List A} {yes : Bool} → yes ≡ is_ok verdict → yes ≡ true
+    → k ≡ min (length slots) (length lent) → part ≡ take k slots → part ++ drop k lent ≡ laid verdict slots lent
+laid_front (Ok done) slots lent {k} a t e p = rw p (front slots lent k e)
+laid_front (Err why) slots lent a t e p = cc
 
-    pub full_written : length lent ≤ i → i ≤ count → after ≡ written verdict count f lent
-    full_written h l = so_far ∙ over_full i count f lent h l ∙ sym (given_yes verdict (over count f lent) lent accepts)
+-- entries by their number, as many as it holds
+over_cut : {A : Type 0} (count : ℕ) (f : ℕ → A) (lent : List A) (i : ℕ) → i ≡ min (length lent) count → over i f lent ≡ over count f lent
+unfolding over
+over_cut zero f [] zero e = refl
+over_cut (suc count) f [] zero e = refl
+over_cut zero f (x ∷ lent) zero e = refl
+over_cut (suc count) f (x ∷ lent) zero e = absurd (omega arith)
+over_cut count f [] (suc i) e = absurd (omega arith)
+over_cut zero f (x ∷ lent) (suc i) e = absurd (omega arith)
+over_cut {A = A} (suc count) f (x ∷ lent) (suc i) e = ap (λ (l : List A). f 0 ∷ l) (over_cut count (λ (k : ℕ). f (suc k)) lent i (omega arith))
 
--- slots that are written one by one lie over what is lent, whatever `get_or` says past their end
-over_slots : {A : Type 0} (d : A) (slots lent : List A) → over (length slots) (λ (i : ℕ). get_or slots i d) lent ≡ onto slots lent
-unfolding over onto
-over_slots d [] lent = refl
-over_slots d (x ∷ slots) [] = refl
-over_slots {A = A} d (x ∷ slots) (y ∷ lent) = ap (λ (l : List A). x ∷ l) (over_slots d slots lent)
-
--- slots that are laid
-module _ {A : Type 0} (d : A) (verdict : Verdict) (slots lent : List A) where
-  pub none : (k at : ℕ) → verdict ≡ refused k at → lent ≡ laid verdict slots lent
-  none k at e = sym (given_no verdict (onto slots lent) lent k at e)
-
-  laid_so : written verdict (length slots) (λ (i : ℕ). get_or slots i d) lent ≡ laid verdict slots lent
-  laid_so = ap (λ (l : List A). given verdict l lent) (over_slots d slots lent)
-
-  module _ (accepts : verdict ≡ accepted) {i : ℕ} {after : List A} (so_far : after ≡ over i (λ (i : ℕ). get_or slots i d) lent) where
-    pub all : i ≡ length slots → after ≡ laid verdict slots lent
-    all e = all-written verdict _ _ lent accepts so_far e ∙ laid_so
-
-    pub full : length lent ≤ i → i ≤ length slots → after ≡ laid verdict slots lent
-    full h l = full_written verdict _ _ lent accepts so_far h l ∙ laid_so
+-- under a verdict that accepts
+pub entries_written : {A : Type 0} (verdict : Verdict) (count : ℕ) (f : ℕ → A) (lent : List A) {i : ℕ} {after : List A} {yes : Bool}
+    → yes ≡ is_ok verdict → yes ≡ true → after ≡ over i f lent → i ≡ min (length lent) count → after ≡ written verdict count f lent
+entries_written (Ok done) count f lent a t p e = p ∙ over_cut count f lent _ e
+entries_written (Err why) count f lent a t p e = cc

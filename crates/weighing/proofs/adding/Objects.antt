@@ -2,16 +2,17 @@
 --     more_in, more-not          a total with it, for an object that is in the word and for one that is not
 --     walk-most, added-room      within the walk and after it a room stays in its range
 --     block-added, block_room    with both words of a block, the totals have one block more; there is room for them
---     cleared_none, cleared_over the room before the first block
+--     cleared                    the room before the first block
 -- Assumes nothing.
 use mathlib.Core.Path.{◌≡◌, refl, sym, ap, ◌∙◌, subst}
-use mathlib.Core.List.{List}
-use Prim.Native.Nat.{ℕ, ◌+◌, ◌*◌, ◌^◌, ◌≤◌, ◌<◌}
+use mathlib.Core.List.{List, [], ◌∷◌, ◌++◌}
+use Prim.Native.Nat.{ℕ, zero, suc, ◌+◌, ◌*◌, ◌^◌, ◌≤◌, ◌<◌}
+use native.Mathlib.Nat.{le_of_suc-le-suc}
 use native.Mathlib.Omega.{arith}
-use lib.ListN.{get_or, length}
+use lib.ListN.{get_or, length, drop, replicate}
 use lib.IntN.{ℤ, pos, nat_abs, ◌+ℤ◌, ◌-ℤ◌, ◌*ℤ◌}
 use Rattle.algebra.specs.Buffers.{over}
-use Rattle.algebra.proofs.Filling.{length_over, get_d_over, over_ext, over-over}
+use Rattle.algebra.proofs.Filling.{length_over, get_d_over, over_ext}
 use Rattle.algebra.proofs.Solver.{◌⊕◌, ◌⊗◌, ◌⊝◌, #, ◌≐◌, ring₂, ring₄}
 use Rattle.algebra.proofs.Bounds.{abs-+, abs_sub, abs-*-le}
 use Rattle.meaning.specs.Analysis.{reading, member}
@@ -103,15 +104,14 @@ module _ (words : List ℕ) (y : List ℤ) (v k : ℕ) (l now : List ℤ) (b : v
           subst (λ (z : ℤ). nat_abs z ≤ C) (sym (ap (λ (m : List ℤ). at m i) e ∙ get_d_over v _ l (pos 0) i a b))
           (omega (arith, total-small words y k n i g m, g.blocks-most))
 
-module _ (v : ℕ) (l now : List ℤ) (e : now ≡ over v (λ i. pos 0) l) where
-  -- a room of zeros keeps its length
-  pub cleared_long : length now ≡ length l
-  cleared_long = ap length e ∙ length_over v _ l
+-- a front that is filled with 0
+filled : (v : ℕ) (l : List ℤ) → v ≤ length l → replicate v (pos 0) ++ drop v l ≡ over v (λ i. pos 0) l
+unfolding over
+filled zero l h = refl
+filled (suc v) [] h = absurd (omega arith)
+filled (suc v) (x ∷ l) h = ap (λ (t : List ℤ). pos 0 ∷ t) (filled v l (le_of_suc-le-suc h))
 
-  -- what is written over the zeros is written over what was there
-  pub cleared_over : (f : ℕ → ℤ) → over v f now ≡ over v f l
-  cleared_over f = ap (over v f) e ∙ over-over v (λ i. pos 0) f l
-
-  -- they are the totals of no block
-  pub cleared_none : (words : List ℕ) (y : List ℤ) → now ≡ over v (total_in words y 0) now
-  cleared_none words y = e ∙ over_ext v _ _ l (λ i a. total-none words y i) ∙ sym (cleared_over (total_in words y 0))
+-- holds the totals of no block
+pub cleared : (v : ℕ) (l zeros : List ℤ) (words : List ℕ) (y : List ℤ) → v ≤ length l → zeros ≡ replicate v (pos 0) →
+    zeros ++ drop v l ≡ over v (total_in words y 0) l
+cleared v l zeros words y h e = rw e (filled v l h ∙ over_ext v _ _ l (λ i a. total-none words y i))

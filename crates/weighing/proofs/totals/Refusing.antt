@@ -1,4 +1,5 @@
 -- The verdicts of totals, taken apart and put together, and what stands where the blocks are accepted. Assumes nothing.
+use Rattle.std.proofs.Common.{Ok, Err}
 use mathlib.Core.Path.{◌≡◌, refl, sym, ap, ap₂, ◌∙◌}
 use mathlib.Core.Bool.{true, false}
 use mathlib.Core.List.{List, replicate}
@@ -10,12 +11,10 @@ use lib.IntN.{ℤ, pos}
 use lib.ListN.{get_or, length, get_or-replicate}
 use Rattle.algebra.proofs.Filling.{get_d_over, length_over}
 use Rattle.records.specs.declared.Head.{Head}
-use Rattle.records.specs.declared.Verdict.{Verdict}
-use Rattle.records.specs.declared.Verdict.TheVariants.{Accepted, Refused}
 use Rattle.records.specs.declared.ObjectTotal.{ObjectTotal}
 use Rattle.meaning.specs.Design.{objects, blocks}
 use Rattle.meaning.specs.Analysis.{total}
-use Rattle.meaning.specs.Refusals.{◌⨾◌, accepted, refused, number, place, clean, in_reach}
+use Rattle.meaning.specs.Refusals.{Verdict, ◌⨾◌, accepted, refused, number, place, clean, in_reach}
 use Rattle.meaning.specs.Calls.{
   given,
   written,
@@ -53,8 +52,8 @@ module _ (h : Head) (d : List ℕ) (y : List ℤ) (l words : List ℕ) (m : leng
   words_long = sym (ap length w ∙ by (slices h d y ⨾ clean h d) ∙ m)
     where
       by : (v : Verdict) → length (words_under v h d l) ≡ length l
-      by Accepted = length_over (2 * blocks h) _ l
-      by (Refused k at) = refl
+      by (Ok done) = length_over (2 * blocks h) _ l
+      by (Err why) = refl
 
   module _ (e : slices h d y ⨾ clean h d ≡ accepted) where
     -- accepted blocks are a sound design, and their words its development
@@ -87,8 +86,8 @@ module _ (h : Head) (d : List ℕ) (y : List ℤ) where
 -- what stands at place i of a room that was written under a verdict
 written_at : (verdict : Verdict) (v : ℕ) (f : ℕ → ℤ) (i : ℕ) → i < v → v ≤ 50 →
     get_or (written verdict v f (replicate 50 (pos 0))) i (pos 0) ≡ given verdict (f i) (pos 0)
-written_at Accepted v f i l m = get_d_over v f (replicate 50 (pos 0)) (pos 0) i l m
-written_at (Refused k at) v f i l m = get_or-replicate 50 i (pos 0) (pos 0) (omega arith)
+written_at (Ok done) v f i l m = get_d_over v f (replicate 50 (pos 0)) (pos 0) i l m
+written_at (Err why) v f i l m = get_or-replicate 50 i (pos 0) (pos 0) (omega arith)
 
 module _ (h : Head) (d : List ℕ) (y : List ℤ) (i : ℕ) where
   -- the blocks are refused

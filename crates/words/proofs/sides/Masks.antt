@@ -1,6 +1,6 @@
 -- The ones that are left of a word under a mask of one or two places.
 --     place-left        under a mask of one place the bit is left
---     pair_full         under a mask of two places every one is left just where both bits are 1
+--     pair_byte         under a mask of two places every one is left just where both bits are 1
 -- Assumes nothing.
 use mathlib.Core.Path.{◌≡◌, refl, sym, ap, ap₂, ◌∙◌}
 use Prim.Native.Nat.{ℕ, zero, suc, ◌+◌, ◌*◌, ◌/◌, ◌%◌, ◌^◌, ◌≤◌, ◌<◌, min}
@@ -10,6 +10,10 @@ use native.Mathlib.Decide.{ℕ_discrete}
 use lib.Arith.{digits_div, digits_mod}
 use lib.Bits.{bit_and, bit_or, and_step, and_zero_r, or_zero_r, or_self, and_self, or_comm, or_mod, or_shr}
 use lib.Count.{ones, ones_step}
+use lib.Dec.{eqb}
+use mathlib.Core.Bool.{Bool, true, false, false≢true}
+use borrow.Author.Tests.{eqb-true, eq-eqb}
+use mir.Val.{bool_byte}
 use Rattle.meaning.specs.Analysis.{member}
 use Rattle.words.proofs.Bits.{two_pos, ones_zero, bit-most, bit-zero, bit-suc, shl_one}
 
@@ -112,7 +116,7 @@ module _ (w i j : ℕ) (hi : i ≤ 63) (hj : j ≤ 63) where
   at-two q = rw (shl_one i hi, shl_one j hj) (ones_two i j w q, ones_pair i j q)
 
   -- every one of the pair is left: both bits are 1
-  pub pair_full : ones (bit_and w (pair_mask i j)) ≡ ones (pair_mask i j) → 1 ≡ member w i * member w j
+  pair_full : ones (bit_and w (pair_mask i j)) ≡ ones (pair_mask i j) → 1 ≡ member w i * member w j
   pair_full e = by (ℕ_discrete i j)
     where
       by : Dec (i ≡ j) → 1 ≡ member w i * member w j
@@ -120,9 +124,17 @@ module _ (w i j : ℕ) (hi : i ≤ 63) (hj : j ≤ 63) where
       by (no q) = product_full (member w i) (member w j) (bit-most w i) (bit-most w j) (omega (arith, at-two q, e))
 
   -- not every one of the pair is left: one of the bits is 0
-  pub pair-part : (ones (bit_and w (pair_mask i j)) ≡ ones (pair_mask i j) → ⊥) → 0 ≡ member w i * member w j
+  pair-part : (ones (bit_and w (pair_mask i j)) ≡ ones (pair_mask i j) → ⊥) → 0 ≡ member w i * member w j
   pair-part f = by (ℕ_discrete i j)
     where
       by : Dec (i ≡ j) → 0 ≡ member w i * member w j
       by (yes q) = product-part (member w i) (member w j) (bit-most w i) (bit-most w j) (λ s. f (omega (arith, at_one q, s, ap (member w) q)))
       by (no q) = product-part (member w i) (member w j) (bit-most w i) (bit-most w j) (λ s. f (omega (arith, at-two q, s)))
+
+  -- 1 where every one of the pair is left, and 0 otherwise
+  pub pair_byte : bool_byte (eqb (ones (bit_and w (pair_mask i j))) (ones (pair_mask i j))) ≡ member w i * member w j
+  pair_byte = go (eqb (ones (bit_and w (pair_mask i j))) (ones (pair_mask i j))) refl
+    where
+      go : (b : Bool) → eqb (ones (bit_and w (pair_mask i j))) (ones (pair_mask i j)) ≡ b → bool_byte b ≡ member w i * member w j
+      go true e = pair_full (eqb-true _ _ e)
+      go false e = pair-part (λ q. false≢true (sym e ∙ eq-eqb _ _ q))

@@ -13,12 +13,11 @@ use Rattle.algebra.specs.Buffers.{over}
 use Rattle.algebra.proofs.Filling.{get_d_over}
 use Rattle.algebra.proofs.Signs.{read_back}
 use Rattle.records.specs.declared.Head.{Head}
-use Rattle.records.specs.declared.Verdict.{Verdict}
 use Rattle.records.specs.declared.Solved.{Solved}
 use Rattle.meaning.specs.Design.{objects}
 use Rattle.meaning.specs.Analysis.{numerator_of, denominator_of}
 use Rattle.meaning.specs.Publishing.{published}
-use Rattle.meaning.specs.Refusals.{◌⨾◌, accepted, refused, clean}
+use Rattle.meaning.specs.Refusals.{Verdict, ◌⨾◌, accepted, refused, clean}
 use Rattle.meaning.specs.Calls.{slices, job_verdict, analyse_verdict}
 use Rattle.laws.proofs.Chains.{job, opened, sliced, given_yes}
 use Rattle.design.proofs.Within.{within-sizes}

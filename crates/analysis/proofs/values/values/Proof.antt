@@ -3,12 +3,12 @@ use borrow.Author.Rules.{rules}
 use mathlib.Core.Path.{ap, ◌∙◌}
 use lib.ListN.{length}
 use mir.Facts.{to_z-of_z}
-use Rattle.records.specs.declared.Verdict.{Verdict}
 use Rattle.records.specs.declared.Solved.{Solved}
 use Rattle.meaning.specs.Calls.{values_under}
 use Rattle.analysis.proofs.values.Refusing.{values-verdict}
 use Rattle.analysis.proofs.values.values.Statement.{statement}
 use Rattle.analysis.proofs.values.values.Tie as tie
+use Rattle.meaning.specs.Refusals.{Verdict}
 
 returns : tie.Need-returns
 returns c =

@@ -9,10 +9,9 @@ use lib.ListN.{length}
 use mir.Facts.{to_z-of_z}
 use Rattle.algebra.specs.Buffers.{over}
 use Rattle.records.specs.declared.Head.{Head}
-use Rattle.records.specs.declared.Verdict.{Verdict}
 use Rattle.records.specs.declared.Judged.{Judged}
 use Rattle.meaning.specs.Design.{objects, blocks, parameters_of}
-use Rattle.meaning.specs.Refusals.{accepted}
+use Rattle.meaning.specs.Refusals.{Verdict, accepted}
 use Rattle.meaning.specs.Calls.{word_at, no_parameters, job_verdict, analysed, rooms}
 use Rattle.laws.proofs.Chains.{given_yes, given_no, job}
 use Rattle.verdicts.proofs.Told.{refusing, accepting}

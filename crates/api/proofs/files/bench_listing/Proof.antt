@@ -5,10 +5,9 @@ use Prim.Native.Nat.{ℕ, ◌<◌, ◌≤◌}
 use borrow.Author.Rules.{rules}
 use lib.ListN.{length}
 use Rattle.meaning.specs.Calls.{given}
-use Rattle.meaning.specs.Refusals.{accepted, refused}
+use Rattle.meaning.specs.Refusals.{Verdict, accepted, refused}
 use Rattle.meaning.specs.Text.{text_of, listed_after}
 use Rattle.records.specs.declared.Listed.{Listed}
-use Rattle.records.specs.declared.Verdict.{Verdict}
 use Rattle.slots.specs.Answers.{listed_call}
 use Rattle.slots.specs.Told.{told}
 use Rattle.api.proofs.Last.{stays, given-twice, listed-short, listed_enough}

@@ -8,10 +8,9 @@ use borrow.Author.Rules.{rules}
 use lib.ListN.{length}
 use Rattle.meaning.specs.Calls.{given, words_under, values_under, deviations_under}
 use Rattle.meaning.specs.File.{head_of, blocks_of, readings_of, set_of, sum_of, read_verdict, solve_verdict}
-use Rattle.meaning.specs.Refusals.{◌⨾◌, refused}
+use Rattle.meaning.specs.Refusals.{Verdict, ◌⨾◌, refused}
 use Rattle.records.specs.declared.JobRead.{JobRead}
 use Rattle.records.specs.declared.Solved.{Solved}
-use Rattle.records.specs.declared.Verdict.{Verdict}
 use Rattle.slots.specs.Answers.{solved_room, solved_call}
 use Rattle.api.proofs.Last.{stays, solved-short, solved_enough}
 use Rattle.api.specs.Files.{solved}

@@ -7,11 +7,10 @@ use borrow.Author.Rules.{rules}
 use lib.ListN.{length}
 use mir.Facts.{to_z-of_z}
 use Rattle.meaning.specs.Calls.{given, job_verdict}
-use Rattle.meaning.specs.Refusals.{◌⨾◌, refused}
+use Rattle.meaning.specs.Refusals.{Verdict, ◌⨾◌, refused}
 use Rattle.meaning.specs.Writing.{write_verdict, file_length, written_after}
 use Rattle.records.specs.declared.Head.{Head}
 use Rattle.records.specs.declared.JobWritten.{JobWritten}
-use Rattle.records.specs.declared.Verdict.{Verdict}
 use Rattle.slots.specs.Answers.{written_call}
 use Rattle.api.proofs.Last.{stays, given-twice, written-short, written_enough}
 use Rattle.api.specs.Files.{file_written}

@@ -9,10 +9,9 @@ use lib.IntN.{ℤ}
 use lib.ListN.{length}
 use mir.Facts.{to_z-of_z}
 use Rattle.meaning.specs.Calls.{given, job_verdict, analyse_verdict, words_under, values_under, deviations_under}
-use Rattle.meaning.specs.Refusals.{◌⨾◌, refused}
+use Rattle.meaning.specs.Refusals.{Verdict, ◌⨾◌, refused}
 use Rattle.records.specs.declared.Head.{Head}
 use Rattle.records.specs.declared.Solved.{Solved}
-use Rattle.records.specs.declared.Verdict.{Verdict}
 use Rattle.slots.specs.Answers.{solved_room, solved_call}
 use Rattle.api.proofs.Last.{stays, solved-short, solved_enough}
 use Rattle.api.specs.Heads.{head_from}

@@ -8,9 +8,8 @@ use borrow.Author.Rules.{rules}
 use lib.ListN.{length}
 use Rattle.records.specs.declared.Head.{Head}
 use Rattle.records.specs.declared.JobWritten.{JobWritten}
-use Rattle.records.specs.declared.Verdict.{Verdict}
 use Rattle.meaning.specs.Calls.{given}
-use Rattle.meaning.specs.Refusals.{◌⨾◌, refused, restraint}
+use Rattle.meaning.specs.Refusals.{Verdict, ◌⨾◌, refused, restraint}
 use Rattle.meaning.specs.Writing.{file_length}
 use Rattle.meaning.specs.Practice.{practised, true_sum, practice_file_verdict, practice_file_after}
 use Rattle.slots.specs.Answers.{written_call}

@@ -9,10 +9,9 @@ use lib.ListN.{length}
 use Rattle.meaning.specs.Calls.{given, words_under, values_under, deviations_under}
 use Rattle.meaning.specs.File.{head_of, blocks_of, readings_of, set_of, sum_of}
 use Rattle.meaning.specs.Edition2.{four_of, read_verdict2, solve_verdict2}
-use Rattle.meaning.specs.Refusals.{◌⨾◌, refused}
+use Rattle.meaning.specs.Refusals.{Verdict, ◌⨾◌, refused}
 use Rattle.records.specs.declared.SecondRead.{SecondRead}
 use Rattle.records.specs.declared.Solved.{Solved}
-use Rattle.records.specs.declared.Verdict.{Verdict}
 use Rattle.slots.specs.Answers.{solved_room, solved_call}
 use Rattle.api.proofs.Last.{stays, solved-short, solved_enough}
 use Rattle.api.specs.Second.{second_solved}

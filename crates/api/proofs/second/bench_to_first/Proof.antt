@@ -13,9 +13,8 @@ use Rattle.laws.proofs.Chains.{opened}
 use Rattle.laws.proofs.Files.{filed, file-job}
 use Rattle.laws.proofs.Edition2.{file_job2}
 use Rattle.api.specs.Second.{moved_to_first}
-use Rattle.meaning.specs.Refusals.{◌⨾◌, refused, test}
+use Rattle.meaning.specs.Refusals.{Verdict, ◌⨾◌, refused, test}
 use Rattle.records.specs.declared.JobWritten.{JobWritten}
-use Rattle.records.specs.declared.Verdict.{Verdict}
 use Rattle.slots.specs.Answers.{written_call}
 use Rattle.slots.specs.Told.{told}
 use Rattle.api.proofs.Last.{stays, given-twice, written-short, written_enough, one_byte}

@@ -10,9 +10,8 @@ use Rattle.meaning.specs.Calls.{given}
 use Rattle.meaning.specs.File.{read_verdict}
 use Rattle.meaning.specs.Edition2.{to_second_verdict, to_second_after}
 use Rattle.api.specs.Second.{moved_to_second}
-use Rattle.meaning.specs.Refusals.{◌⨾◌, refused}
+use Rattle.meaning.specs.Refusals.{Verdict, ◌⨾◌, refused}
 use Rattle.records.specs.declared.JobWritten.{JobWritten}
-use Rattle.records.specs.declared.Verdict.{Verdict}
 use Rattle.slots.specs.Answers.{written_call}
 use Rattle.slots.specs.Told.{told}
 use Rattle.api.proofs.Last.{stays, given-twice, written-short, written_enough, one_byte}

@@ -12,9 +12,8 @@ use Rattle.meaning.specs.Calls.{given, slices, contents}
 use Rattle.meaning.specs.Edition2.{names_fit, file_length2, write_verdict2, written_after2}
 use Rattle.api.specs.Heads.{head_from}
 use Rattle.api.specs.Second.{second_written}
-use Rattle.meaning.specs.Refusals.{◌⨾◌, refused}
+use Rattle.meaning.specs.Refusals.{Verdict, ◌⨾◌, refused}
 use Rattle.records.specs.declared.JobWritten.{JobWritten}
-use Rattle.records.specs.declared.Verdict.{Verdict}
 use Rattle.slots.specs.Answers.{written_call}
 use Rattle.slots.specs.Told.{told}
 use Rattle.api.proofs.Last.{stays, given-twice, written-short, written_enough, one_byte}

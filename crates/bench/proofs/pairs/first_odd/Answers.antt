@@ -6,19 +6,19 @@ use Rattle.bench.proofs.pairs.first_odd.Goals as goal
 
 pub loop-j-init : goal.loop-j-init
 unfolding first_odd
-loop-j-init c = (omega arith, refl)
+loop-j-init c = refl
 
 pub returns-then-is_odd : goal.returns-then-is_odd
 returns-then-is_odd c =
     let l = c.loop-j in
-    sym (l.invariant.1 ∙ first-here _ 50 l.j (omega arith) (sym c.is_odd.ensures ∙ search rules))
+    sym (l.invariant ∙ first-here _ 50 l.j (omega arith) (sym c.is_odd.ensures ∙ search rules))
 
 pub loop-j-preserved : goal.loop-j-preserved
 loop-j-preserved c =
     let l = c.loop-j in
-    (omega arith, l.invariant.1 ∙ first_on _ 50 l.j (omega arith) (sym c.is_odd.ensures ∙ search rules))
+    l.invariant ∙ first_on _ 50 l.j (omega arith) (sym c.is_odd.ensures ∙ search rules)
 
 pub returns : goal.returns
 returns c =
     let l = c.loop-j in
-    sym (l.invariant.1 ∙ first-end _ 50 l.j (omega arith))
+    sym (l.invariant ∙ first-end _ 50 l.j (omega arith))

@@ -2,7 +2,7 @@
 use mathlib.Core.Path.{◌≡◌, refl, sym, ap, ◌∙◌}
 use mathlib.Core.Bool.{true, false}
 use mathlib.Core.List.{List}
-use Prim.Native.Nat.{ℕ, ◌≤◌, ◌<◌}
+use Prim.Native.Nat.{ℕ, ◌≤◌}
 use native.Mathlib.Omega.{arith}
 use borrow.Author.Rules.{rules}
 use borrow.Author.Tests.{not-true, not-false}
@@ -10,7 +10,7 @@ use lib.ListN.{length, take}
 use lib.Seq.{length-take-le}
 use Rattle.algebra.proofs.Writing.{measured}
 use Rattle.records.specs.declared.Card.{Card}
-use Rattle.meaning.specs.Card.{card_of, bytes_in, is_whole}
+use Rattle.meaning.specs.Card.{card_of, is_whole}
 use Rattle.cards.specs.Filing.{unreadable, Readable}
 use Rattle.cards.proofs.Keeping.{kept_small}
 use Rattle.cards.proofs.filing.Parts.{stands}

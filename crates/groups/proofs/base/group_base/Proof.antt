@@ -1,18 +1,14 @@
 -- `groups::base::group_base` meets its contract: the chain of tests goes on at each step that accepts. Assumes nothing.
-use Prim.Native.Nat.{◌*◌, ◌≤◌}
 use mathlib.Core.Path.{◌≡◌, sym, ap, ◌∙◌}
-use mathlib.Core.Bool.{◌&&◌}
-use lib.Dec.{leb}
 use lib.ListN.{length}
 use Rattle.records.specs.declared.Judged.{Judged}
-use Rattle.meaning.specs.Design.{objects, parameters_of}
+use Rattle.meaning.specs.Design.{parameters_of}
 use Rattle.meaning.specs.Refusals.{accepted}
 use Rattle.meaning.specs.Calls.{judge_verdict}
 use Rattle.laws.proofs.Chains.{given_yes}
 use Rattle.verdicts.proofs.Told.{accepting}
 use Rattle.groups.specs.Base.{sizes_verdict}
 use Rattle.groups.proofs.base.Members.{base_sizes, base_refused, base_room, set-refused, words-kept, sizes-fit, base_laid, base_words_lem}
-use native.Mathlib.Omega.{arith}
 use borrow.Author.Rules.{rules}
 use Rattle.groups.proofs.base.group_base.Statement.{statement}
 use Rattle.groups.proofs.base.group_base.Tie as tie

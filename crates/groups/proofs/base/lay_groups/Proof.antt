@@ -4,7 +4,6 @@ use mathlib.Core.Path.{◌≡◌, sym, ap, ◌∙◌, subst}
 use lib.ListN.{length}
 use Rattle.records.specs.declared.Parameters.{Parameters}
 use Rattle.records.specs.declared.GroupParameters.{GroupParameters}
-use Rattle.records.specs.declared.GroupedSet.{GroupedSet}
 use Rattle.meaning.specs.Design.{objects, blocks}
 use Rattle.meaning.specs.Refusals.{accepted}
 use Rattle.meaning.specs.Calls.{develop_verdict}

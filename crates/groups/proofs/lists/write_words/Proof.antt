@@ -1,5 +1,5 @@
 -- `groups::lists::write_words` meets its contract: the words are written over from the front, two a turn. Assumes nothing.
-use Prim.Native.Nat.{ℕ, ◌+◌, ◌-◌, ◌*◌, ◌≤◌, ◌<◌}
+use Prim.Native.Nat.{ℕ, ◌+◌, ◌-◌, ◌*◌, ◌≤◌}
 use mathlib.Core.Path.{◌≡◌, ◌∙◌}
 use lib.ListN.{length, length-set, length-take}
 use Rattle.algebra.specs.Buffers.{over}

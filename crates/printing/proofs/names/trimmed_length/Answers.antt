@@ -4,4 +4,4 @@ use Rattle.printing.proofs.names.Shown.{trimmed-none}
 use Rattle.printing.proofs.names.trimmed_length.Goals as goal
 
 pub loop-i-init : goal.loop-i-init
-loop-i-init c = (omega arith, omega arith, trimmed-none)
+loop-i-init c = (omega arith, trimmed-none)

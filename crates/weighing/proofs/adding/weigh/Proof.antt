@@ -8,9 +8,8 @@ use lib.IntN.{ℤ}
 use lib.ListN.{length}
 use Rattle.algebra.specs.Buffers.{over}
 use Rattle.algebra.proofs.Filling.{length_over}
-use Rattle.records.specs.declared.Verdict.{Verdict}
 use Rattle.meaning.specs.Design.{objects, blocks}
-use Rattle.meaning.specs.Refusals.{accepted}
+use Rattle.meaning.specs.Refusals.{Verdict, accepted}
 use Rattle.meaning.specs.Wide.{wide}
 use Rattle.laws.proofs.Chains.{given_yes, given_no}
 use Rattle.design.proofs.Within.{within-sizes}

@@ -8,9 +8,8 @@ use lib.ListN.{get_or}
 use mir.Syntax.{w64}
 use mir.Val.{SFits}
 use mir.Facts.{to_z-of_z}
-use Rattle.records.specs.declared.Verdict.{Verdict}
 use Rattle.records.specs.declared.SquareSum.{SquareSum}
-use Rattle.meaning.specs.Refusals.{◌⨾◌, accepted, refused, clean}
+use Rattle.meaning.specs.Refusals.{Verdict, ◌⨾◌, accepted, refused, clean}
 use Rattle.meaning.specs.Calls.{slices}
 use Rattle.meaning.specs.Design.{objects}
 use Rattle.design.proofs.Within.{within-sizes}

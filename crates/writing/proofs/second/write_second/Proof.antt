@@ -6,8 +6,7 @@ use native.Mathlib.Omega.{arith}
 use borrow.Author.Rules.{rules}
 use lib.ListN.{length}
 use mir.Facts.{to_z-of_z}
-use Rattle.records.specs.declared.Verdict.{Verdict}
-use Rattle.meaning.specs.Refusals.{accepted}
+use Rattle.meaning.specs.Refusals.{Verdict, accepted}
 use Rattle.meaning.specs.Edition2.{file_of2, write_verdict2}
 use Rattle.laws.proofs.Edition2.{second-length}
 use Rattle.laws.proofs.Putting.{unput, put}

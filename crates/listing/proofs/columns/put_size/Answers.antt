@@ -1,0 +1,15 @@
+-- `listing::columns::put_size`: what the text leaves of its column, and the text.
+use mathlib.Core.Path.{ap, ◌∙◌}
+use mathlib.Core.List.{◌++◌}
+use Prim.Native.Nat.{ℕ}
+use native.Mathlib.Omega.{arith}
+use Rattle.algebra.proofs.Writing.{◌then◌, named}
+use Rattle.meaning.specs.Certificate.{spaces, two_decimals}
+use Rattle.listing.proofs.columns.Filling.{left_is}
+use Rattle.listing.proofs.columns.put_size.Goals as goal
+
+pub returns : goal.returns
+returns c =
+    let x = c.args.hundredths in
+    named (c.put_spaces-start.ensures then c.put_decimals.ensures)
+    (search (ap (λ (n : ℕ). spaces n ++ two_decimals x) (c.saturating_sub.ensures ∙ left_is 22 (omega arith) c.put_decimals-length.ensures)))

@@ -1,0 +1,10 @@
+-- `columns::put_spread`: each arm puts what the text is for its case. Assumes nothing.
+use borrow.Author.Rules.{rules}
+use Rattle.algebra.proofs.Writing.{named}
+use Rattle.meaning.specs.Text.{ascii, each}
+use Rattle.listing.proofs.columns.put_spread.Goals as goal
+
+pub returns-in-None : goal.returns-in-None
+unfolding ascii each
+returns-in-None c =
+    named c.put_text.ensures (rw c.in-None.is (search rules))

@@ -1,2 +1,0 @@
--- The laws of signed numbers in bytes.
-pub mod Halves

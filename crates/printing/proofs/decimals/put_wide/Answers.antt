@@ -1,0 +1,7 @@
+-- A space, then the digits.
+use Rattle.std.proofs.Common.{rules}
+use Rattle.algebra.proofs.Writing.{◌then◌, named}
+use Rattle.printing.proofs.decimals.put_wide.Goals as goal
+
+pub returns : goal.returns
+returns c = named (c.put_byte-first.ensures then c.put_wide_digits.ensures) (search rules)

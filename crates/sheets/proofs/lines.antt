@@ -1,2 +1,0 @@
--- The laws of a line's cases.
-pub mod Cases

@@ -1,7 +1,6 @@
 -- What an accepted job gives to the calls below it, and what is worked out from its totals: the definitions' own values, deviations and spread.
 -- Assumes nothing.
 use Rattle.laws.specs.Limits.{squares_limit}
-use Rattle.arithmetic.proofs.Words.{exact}
 use Rattle.meaning.specs.Wide.{value, wide}
 use mathlib.Core.Path.{◌≡◌, refl, sym, ap, ap₂, ◌∙◌, subst, subst₂}
 use mathlib.Core.Bool.{true}
@@ -46,9 +45,9 @@ use Rattle.laws.proofs.Chains.{Sound, Readings, Job, opened, accepts, goes_on, t
 use Rattle.laws.proofs.Counting.{Numbers}
 use Rattle.laws.proofs.CountingNumbers.{parameters}
 use Rattle.laws.proofs.Matrix.{difference_signs}
-use Rattle.laws.proofs.Analysis.{vbeta-some, q_nonneg}
+use Rattle.laws.proofs.Analysis.{q_nonneg}
 use Rattle.laws.proofs.Sizes.{squared_readings_most}
-use Rattle.laws.proofs.SizesMost.{vbeta-most, q_most}
+use Rattle.laws.proofs.SizesMost.{vbeta-most}
 use Rattle.arithmetic.specs.Hundredths.{spreading_from, hundredths_from}
 use Rattle.arithmetic.proofs.Spreads.{hundredths-is, spread_range, q_words}
 use Rattle.weighing.proofs.SquareSums.{readings-squares}

@@ -1,7 +1,7 @@
 -- Sums of a room of totals over the objects of a word: the walk that builds one, how large it is, and what a block's two words make of it.
 --     set_rest                            a sum is its lowest object's total and the sum over the rest
 --     set-within                          over a word with its objects below v, v places are enough
---     SetWalk, set_starts, set-goes, set-ends, so_far_small   the walk
+--     SetWalk, set-goes, set-ends, so_far_small   the walk
 --     set-small, fitted_small             how large
 --     fitted_signs                        by the signs of a block's words
 --     set_agrees, fitted_agrees           from two rooms of the same totals
@@ -28,7 +28,7 @@ use Rattle.meaning.specs.Design.{objects, blocks}
 use Rattle.meaning.specs.Analysis.{reading, member, members, restrained, numerator}
 use Rattle.words.specs.Bits.{lowest_of, without_lowest}
 use Rattle.words.proofs.Bits.{bit-most, bit-none, bit_past, one_below, once, once-same, once-other}
-use Rattle.words.proofs.Walk.{Left, left-all, left-rest, lowest_lt, rest-bit}
+use Rattle.words.proofs.Walk.{Left, left-rest, lowest_lt, rest-bit}
 use Rattle.weighing.specs.Developed.{sign_in, total_in}
 use Rattle.weighing.proofs.Developing.{filled_at, filled_most}
 use Rattle.weighing.proofs.Refusing.{Weighable}
@@ -97,10 +97,6 @@ pub record SetWalk (w : ℕ) (totals : List ℤ) (rest : ℕ) (so_far : ℤ) : T
   pub sums : so_far +ℤ over_set rest (total_at totals) ≡ over_set w (total_at totals)
 
 module _ (w : ℕ) (totals : List ℤ) where
-  -- nothing was added yet
-  pub set_starts : SetWalk w totals w (pos 0)
-  set_starts = record { left = left-all w; sums = ring₁ (λ t. # 0 ⊕ t ≐ t) (over_set w (total_at totals)) refl }
-
   -- all was added
   pub set-ends : (so_far : ℤ) → SetWalk w totals 0 so_far → so_far ≡ over_set w (total_at totals)
   set-ends so_far k = sym (ap (λ (z : ℤ). so_far +ℤ z) (set-nothing (total_at totals)) ∙ ring₁ (λ t. t ⊕ # 0 ≐ t) so_far refl) ∙ k.sums

@@ -65,6 +65,7 @@ pub fn column(numerators: &[i64; 50], denominator: u64, set: u64) -> [i64; 50]
 }
 
 // The hundredths of one object: of a member those at or below, and one more where its rank is below what is shared out; else the nearest.
+#[tactic(auto, using(crate::proofs::publishing::Serving::served))]
 fn hundredths_at(
     numerator: i64,
     denominator: u64,

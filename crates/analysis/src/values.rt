@@ -91,6 +91,7 @@ pub fn value_of(
 }
 
 // The variance factor of an object, over the denominator of its value: t - 1 where the restraint set holds it, t + 1 where it does not.
+#[tactic(auto, using(crate::proofs::values::Ones::few, crate::proofs::values::Ones::some))]
 pub(crate) fn factor_of(set: u64, object: usize) -> u64
     ensures { result ≡ factor_in set object }
 {

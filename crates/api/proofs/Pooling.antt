@@ -7,7 +7,6 @@ use lib.Dec.{eqb, ltb, leb}
 use lib.Ieee.{Float}
 use lib.ListN.{length}
 use Rattle.meaning.specs.Refusals.{accepted}
-use Rattle.meaning.specs.File.{read_verdict}
 use Rattle.meaning.specs.Pooled.{pool_limit, lengths_sum, jobs_in, first_bad, odd_job, one_kind, jobs_verdict, pooled_verdict, pooled_answer}
 use Rattle.slots.specs.Pools.{pooled_call, pooled_told}
 use Rattle.slots.proofs.Numbered.{Numbered, numbered_test, numbered_then}

@@ -9,13 +9,14 @@ use records::Refusal;
 use slots::{lay_listed, told};
 
 // Writes the card of a job file to the front of `out`. Without a slot nothing is written.
+#[tactic(auto, using(crate::proofs::Slots::text_calls), unfolding(slots::specs::Answers::listed_call))]
 #[unsafe(no_mangle)]
 pub extern "C" fn bench_card(bytes: &[u8], out: &mut [u8], answer: &mut [u64]) -> u64
     ensures value { result ≡ told (listed_call (file_card bytes.now out.old) answer.old) }
     ensures out_after { out.new ≡ card_put bytes.now out.old answer.old }
     ensures answer_after { answer.new ≡ listed_laid (file_card bytes.now out.old) answer.old }
 {
-    if answer.len() < 1 {
+    if answer.is_empty() {
         return told(Err(Refusal {
             number: 10,
             place: 0,
@@ -25,13 +26,14 @@ pub extern "C" fn bench_card(bytes: &[u8], out: &mut [u8], answer: &mut [u64]) -
 }
 
 // Writes the card of a file of the second edition to the front of `out`, with its names and its other optional fields. Without a slot nothing is written.
+#[tactic(auto, using(crate::proofs::Slots::text_calls), unfolding(slots::specs::Answers::listed_call))]
 #[unsafe(no_mangle)]
 pub extern "C" fn bench_card_second(bytes: &[u8], out: &mut [u8], answer: &mut [u64]) -> u64
     ensures value { result ≡ told (listed_call (second_card bytes.now out.old) answer.old) }
     ensures out_after { out.new ≡ second_card_put bytes.now out.old answer.old }
     ensures answer_after { answer.new ≡ listed_laid (second_card bytes.now out.old) answer.old }
 {
-    if answer.len() == 0 {
+    if answer.is_empty() {
         return told(Err(Refusal {
             number: 10,
             place: 0,

@@ -83,10 +83,7 @@ pub extern "C" fn bench_check_second(
 fn claimed_from(has: u64, spread: f64, freedom: u64) -> Option<Spread>
     ensures { result ≡ claimed_from has spread freedom }
 {
-    if has == 0 {
-        return None;
-    }
-    Some(Spread {
+    (has != 0).then_some(Spread {
         value: spread,
         freedom,
     })

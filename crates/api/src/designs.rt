@@ -76,9 +76,7 @@ pub extern "C" fn bench_company(
         (company_table (head_from n flag p m) blocks.now) table.old }
 {
     let head = Head { n, flag, p, m };
-    let tested = pairs_refusal(head, blocks);
-    let counted = company(head, blocks);
-    lay_table(tested, &counted, table)
+    lay_table(pairs_refusal(head, blocks), &company(head, blocks), table)
 }
 
 // In how many blocks two objects stand on opposite sides: 50 rows of 50, row after row.
@@ -96,9 +94,11 @@ pub extern "C" fn bench_opposition(
         (opposition_table (head_from n flag p m) blocks.now) table.old }
 {
     let head = Head { n, flag, p, m };
-    let tested = pairs_refusal(head, blocks);
-    let counted = opposition(head, blocks);
-    lay_table(tested, &counted, table)
+    lay_table(
+        pairs_refusal(head, blocks),
+        &opposition(head, blocks),
+        table,
+    )
 }
 
 // Judges a design.

@@ -15,7 +15,6 @@ use records::{Head, Refusal};
 use slots::{
     lay_field, lay_listed, lay_read, lay_solved, lay_written, solved_room, told, with_room,
 };
-use verdicts::is_refused;
 use writing::write;
 
 // The field at a place of some bytes: its tag, and the length that its body must have.
@@ -44,6 +43,7 @@ pub extern "C" fn bench_read(bytes: &[u8], signed: &mut [i64], answer: &mut [u64
 }
 
 // Works a job file out: words, values and deviations into their rooms. Where the slots are too few the file is only read, and nothing is written.
+#[tactic(auto, using(crate::proofs::Slots::solving_calls), unfolding(slots::specs::Answers::solved_call, meaning::specs::File::solve_verdict))]
 #[unsafe(no_mangle)]
 pub extern "C" fn bench_solve(
     bytes: &[u8],
@@ -66,17 +66,14 @@ pub extern "C" fn bench_solve(
     ensures real_after { real.new ≡ solved_real (solved bytes.now words.old values.old deviations.old)
         answer.old real.old }
 {
-    let slotted = solved_room(answer.len(), real.len());
-    // A refusal is told as a number, and nothing is laid.
-    if is_refused(slotted) {
-        let found = read(bytes);
-        let tested = found.verdict;
-        return told(with_room(tested, 0, 1));
+    if solved_room(answer.len(), real.len()).is_err() {
+        return told(with_room(read(bytes).verdict, 0, 1));
     }
     lay_solved(solve(bytes, words, values, deviations), answer, real)
 }
 
 // Writes the file of a job to the front of `out`. Without a slot the tests alone are made, and nothing is written.
+#[tactic(auto, using(crate::proofs::Slots::file_calls), unfolding(slots::specs::Answers::written_call, meaning::specs::Writing::write_verdict))]
 #[unsafe(no_mangle)]
 pub extern "C" fn bench_write(
     n: usize,
@@ -98,21 +95,21 @@ pub extern "C" fn bench_write(
         out.old) answer.old }
 {
     let head = Head { n, flag, p, m };
-    if answer.len() < 1 {
-        let tested = refusal(head, blocks, readings, set, sum);
-        return told(with_room(tested, 0, 1));
+    if answer.is_empty() {
+        return told(with_room(refusal(head, blocks, readings, set, sum), 0, 1));
     }
     lay_written(write(head, blocks, set, sum, readings, out), answer)
 }
 
 // Writes the text for a job file to the front of `out`. Without a slot nothing is written.
+#[tactic(auto, using(crate::proofs::Slots::text_calls), unfolding(slots::specs::Answers::listed_call))]
 #[unsafe(no_mangle)]
 pub extern "C" fn bench_listing(bytes: &[u8], out: &mut [u8], answer: &mut [u64]) -> u64
     ensures value { result ≡ told (listed_call (file_listed bytes.now out.old) answer.old) }
     ensures out_after { out.new ≡ listing_text bytes.now out.old answer.old }
     ensures answer_after { answer.new ≡ listed_laid (file_listed bytes.now out.old) answer.old }
 {
-    if answer.len() < 1 {
+    if answer.is_empty() {
         return told(Err(Refusal {
             number: 10,
             place: 0,

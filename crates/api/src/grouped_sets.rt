@@ -27,6 +27,7 @@ pub extern "C" fn bench_grouped(
 }
 
 // Writes the words of the grouped set of a design. Where the slots are too few the tests alone are made, and nothing is written.
+#[tactic(auto, using(crate::proofs::Grouping::group_calls), unfolding(slots::specs::Groups::group_set_call))]
 #[unsafe(no_mangle)]
 pub extern "C" fn bench_group_base(
     n: usize,
@@ -45,10 +46,7 @@ pub extern "C" fn bench_group_base(
 {
     let head = Head { n, flag, p, m };
     if answer.len() < 8 {
-        let mut none = [0u64; 1];
-        let tested = group_base(head, blocks, g, &mut none);
-        let verdict = tested.verdict;
-        return told(verdict);
+        return told(group_base(head, blocks, g, &mut [0]).verdict);
     }
     lay_group_set(group_base(head, blocks, g, words), answer)
 }

@@ -16,7 +16,6 @@ use analysis::values::{value_of, values as numerators};
 use judging::refusal;
 use records::Head;
 use slots::{lay_solved, lay_uncertainty, lay_value, solved_room, told, with_room};
-use verdicts::is_refused;
 
 // Why a whole job is refused, with no room.
 #[unsafe(no_mangle)]
@@ -142,6 +141,7 @@ pub extern "C" fn bench_published(
 }
 
 // Everything at once: words, values and deviations into their rooms. Where the slots are too few the tests alone are made, and nothing is written.
+#[tactic(auto, using(crate::proofs::Slots::solving_calls), unfolding(slots::specs::Answers::solved_call, meaning::specs::Calls::analyse_verdict))]
 #[unsafe(no_mangle)]
 pub extern "C" fn bench_analyse(
     n: usize,
@@ -172,11 +172,8 @@ pub extern "C" fn bench_analyse(
         words.old values.old deviations.old) answer.old real.old }
 {
     let head = Head { n, flag, p, m };
-    let slotted = solved_room(answer.len(), real.len());
-    // A refusal is told as a number, and nothing is laid.
-    if is_refused(slotted) {
-        let tested = refusal(head, blocks, readings, set, sum);
-        return told(with_room(tested, 0, 1));
+    if solved_room(answer.len(), real.len()).is_err() {
+        return told(with_room(refusal(head, blocks, readings, set, sum), 0, 1));
     }
     let solved = analyse(head, blocks, readings, set, sum, words, values, deviations);
     lay_solved(solved, answer, real)

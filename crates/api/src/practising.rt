@@ -33,6 +33,7 @@ pub extern "C" fn bench_practice(
 }
 
 // Writes the file of a practice job to the front of `out`. Without a slot the tests alone are made.
+#[tactic(auto, using(crate::proofs::Slots::file_calls), unfolding(slots::specs::Answers::written_call, meaning::specs::Practice::practice_file_verdict))]
 #[unsafe(no_mangle)]
 pub extern "C" fn bench_practice_file(
     n: usize,
@@ -55,11 +56,8 @@ pub extern "C" fn bench_practice_file(
         out.old) answer.old }
 {
     let head = Head { n, flag, p, m };
-    if answer.len() < 1 {
-        let mut one = [0u8; 1];
-        let tested = practice_file(head, blocks, truths, start, width, set, &mut one);
-        let verdict = tested.verdict;
-        return told(verdict);
+    if answer.is_empty() {
+        return told(practice_file(head, blocks, truths, start, width, set, &mut [0]).verdict);
     }
     lay_written(
         practice_file(head, blocks, truths, start, width, set, out),

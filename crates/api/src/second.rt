@@ -11,7 +11,6 @@ use job::{read_second, solve_second, to_first, to_second};
 use listing::listing_second;
 use records::{Head, Refusal};
 use slots::{lay_listed, lay_second, lay_solved, lay_written, solved_room, told, with_room};
-use verdicts::is_refused;
 use writing::write_second;
 
 // Reads a file of the second edition.
@@ -25,6 +24,7 @@ pub extern "C" fn bench_read_second(bytes: &[u8], signed: &mut [i64], answer: &m
 }
 
 // Works a file of the second edition out. Where the slots are too few the file is only read, and nothing is written.
+#[tactic(auto, using(crate::proofs::Slots::solving_calls), unfolding(slots::specs::Answers::solved_call, meaning::specs::Edition2::solve_verdict2))]
 #[unsafe(no_mangle)]
 pub extern "C" fn bench_solve_second(
     bytes: &[u8],
@@ -47,18 +47,14 @@ pub extern "C" fn bench_solve_second(
     ensures real_after { real.new ≡ solved_real (second_solved bytes.now words.old values.old deviations.old)
         answer.old real.old }
 {
-    let slotted = solved_room(answer.len(), real.len());
-    // A refusal is told as a number, and nothing is laid.
-    if is_refused(slotted) {
-        let found = read_second(bytes);
-        let job = found.job;
-        let tested = job.verdict;
-        return told(with_room(tested, 0, 1));
+    if solved_room(answer.len(), real.len()).is_err() {
+        return told(with_room(read_second(bytes).job.verdict, 0, 1));
     }
     lay_solved(solve_second(bytes, words, values, deviations), answer, real)
 }
 
 // Writes the file of a job in the second edition to the front of `out`. Without a slot the tests alone are made: one byte is room for no file.
+#[tactic(auto, using(crate::proofs::Slots::file_calls), unfolding(slots::specs::Answers::written_call, meaning::specs::Edition2::write_verdict2))]
 #[unsafe(no_mangle)]
 pub extern "C" fn bench_write_second(
     n: usize,
@@ -81,11 +77,8 @@ pub extern "C" fn bench_write_second(
         names.now out.old) answer.old }
 {
     let head = Head { n, flag, p, m };
-    if answer.len() < 1 {
-        let mut one = [0u8; 1];
-        let tested = write_second(head, blocks, set, sum, readings, names, &mut one);
-        let verdict = tested.verdict;
-        return told(verdict);
+    if answer.is_empty() {
+        return told(write_second(head, blocks, set, sum, readings, names, &mut [0]).verdict);
     }
     lay_written(
         write_second(head, blocks, set, sum, readings, names, out),
@@ -94,45 +87,42 @@ pub extern "C" fn bench_write_second(
 }
 
 // Moves a file of the first edition to the second, at the front of `out`. Without a slot the tests alone are made.
+#[tactic(auto, using(crate::proofs::Slots::file_calls), unfolding(slots::specs::Answers::written_call, meaning::specs::Edition2::to_second_verdict))]
 #[unsafe(no_mangle)]
 pub extern "C" fn bench_to_second(bytes: &[u8], out: &mut [u8], answer: &mut [u64]) -> u64
     ensures value { result ≡ told (written_call (moved_to_second bytes.now out.old) answer.old) }
     ensures out_after { out.new ≡ to_second bytes.now out.old answer.old }
     ensures answer_after { answer.new ≡ written_laid (moved_to_second bytes.now out.old) answer.old }
 {
-    if answer.len() < 1 {
-        let mut one = [0u8; 1];
-        let tested = to_second(bytes, &mut one);
-        let verdict = tested.verdict;
-        return told(verdict);
+    if answer.is_empty() {
+        return told(to_second(bytes, &mut [0]).verdict);
     }
     lay_written(to_second(bytes, out), answer)
 }
 
 // Moves a file of the second edition to the first, at the front of `out`. Without a slot the tests alone are made.
+#[tactic(auto, using(crate::proofs::Slots::file_calls), unfolding(slots::specs::Answers::written_call))]
 #[unsafe(no_mangle)]
 pub extern "C" fn bench_to_first(bytes: &[u8], out: &mut [u8], answer: &mut [u64]) -> u64
     ensures value { result ≡ told (written_call (moved_to_first bytes.now out.old) answer.old) }
     ensures out_after { out.new ≡ to_first bytes.now out.old answer.old }
     ensures answer_after { answer.new ≡ written_laid (moved_to_first bytes.now out.old) answer.old }
 {
-    if answer.len() < 1 {
-        let mut one = [0u8; 1];
-        let tested = to_first(bytes, &mut one);
-        let verdict = tested.verdict;
-        return told(verdict);
+    if answer.is_empty() {
+        return told(to_first(bytes, &mut [0]).verdict);
     }
     lay_written(to_first(bytes, out), answer)
 }
 
 // Writes the text for a file of the second edition to the front of `out`. Without a slot nothing is written.
+#[tactic(auto, using(crate::proofs::Slots::text_calls), unfolding(slots::specs::Answers::listed_call))]
 #[unsafe(no_mangle)]
 pub extern "C" fn bench_listing_second(bytes: &[u8], out: &mut [u8], answer: &mut [u64]) -> u64
     ensures value { result ≡ told (listed_call (second_listed bytes.now out.old) answer.old) }
     ensures out_after { out.new ≡ second_text bytes.now out.old answer.old }
     ensures answer_after { answer.new ≡ listed_laid (second_listed bytes.now out.old) answer.old }
 {
-    if answer.len() < 1 {
+    if answer.is_empty() {
         return told(Err(Refusal {
             number: 10,
             place: 0,

@@ -19,7 +19,7 @@ use Rattle.meaning.specs.Card.{object_of, member_of, hex_byte, hex_bytes, is_bod
 use Rattle.laws.proofs.Bytes.{bytes-long}
 use borrow.Author.Rules.{rules}
 use Rattle.std.specs.Prelude.{Option, Some, is_some, unwrap_or, pos}
-use Rattle.cards.specs.Sizes.{Small, Measured, Kept}
+use Rattle.cards.specs.Sizes.{Measured, Kept}
 use Rattle.cards.proofs.Choices.{either, and_second}
 use Rattle.cards.proofs.hexadecimal.Digits.{tag_most, hex_long}
 
@@ -335,19 +335,3 @@ kept_word k j c w h some e = either (Kept j) c.bad (λ t. kept-later h (omega ar
       sizes = longer-sizes (length (given_bytes c w)) (more-words s.0 (omega arith));
       length = omega (arith, s.1, h.length, given-short c w);
     })
-
--- far from the end of every type
-pub kept_small : {k : ℕ} {c : Card} → Kept k c → k ≤ 65537 → Small c
-kept_small {k} {c} h l = let s = h.sizes in record {
-  n = s.n;
-  flag = omega (arith, s.flag);
-  p = s.p;
-  m = omega (arith, s.m);
-  count = by (eqb c.wants 21) s.count;
-  readings = omega (arith, s.readings);
-  length = omega (arith, h.length);
-}
-  where
-    by : (b : Bool) → c.count ≤ 255 + cond b 0 k → c.count ≤ 4294967296
-    by true i = omega arith
-    by false i = omega arith

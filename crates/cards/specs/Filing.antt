@@ -6,7 +6,6 @@ use Rattle.meaning.specs.Refusals.{Verdict, refused, ◌⨾◌, room}
 use Rattle.meaning.specs.Calls.{given}
 use Rattle.meaning.specs.Edition2.{put_after}
 use Rattle.meaning.specs.Card.{card_of, bytes_in, card_file, file_verdict}
-use Rattle.cards.specs.Sizes.{Small}
 
 -- the answer where the card cannot be read, at this place
 abbrev pub unreadable : ℕ → ℕ → CardRead
@@ -18,14 +17,12 @@ pub record Readable (s : List ℕ) (seen : Card) (body : List ℕ) : Type 0 wher
   pub is : seen ≡ card_of s
   pub bytes : body ≡ bytes_in s
   pub few : length (bytes_in s) ≤ 16348
-  pub small : Small seen
 
 -- the same, with the file
 pub record Filed (s : List ℕ) (seen : Card) (file : List ℕ) : Type 0 where
   pub short : length s ≤ 65536
   pub is : seen ≡ card_of s
   pub whole : file ≡ card_file s
-  pub small : Small seen
 
 -- the answer where the card can be read, and the room after
 abbrev pub filing : List ℕ → ℕ → Verdict

@@ -3,7 +3,7 @@ ghost use Rattle.std.specs.Prelude.{◌≡◌, ◌-◌, ◌≤◌, length};
 ghost use Rattle.meaning.specs.Card.{word_in, wants_for, bytes_before, moved_to, file_verdict, is_whole, card_answer, card_after};
 ghost use Rattle.cards.specs.Filing.{Readable, Filed, filing, unreadable, file_answer, file_after};
 
-use crate::filing::{is_second, put_file};
+use crate::filing::Counted;
 use crate::reading::walked;
 use job::{read, read_second};
 use printing::put_text;
@@ -46,7 +46,7 @@ pub fn job_of_card(card: &[u8], out: &mut [u8]) -> CardRead
     if BYTES_LIMIT < length {
         return unread(word_of(card, LAST_WANTED, BYTES_LIMIT), NO_MORE);
     }
-    make_file(card, seen, &body[..length], out)
+    make_file(card, Counted { card: seen }, &body[..length], out)
 }
 
 // A card that cannot be read.
@@ -78,13 +78,13 @@ fn word_of(card: &[u8], wants: usize, len: usize) -> usize
 }
 
 // The file of a card that can be read: `body` is what its words give.
-fn make_file(card: &[u8], seen: Card, body: &[u8], out: &mut [u8]) -> CardRead
-    requires { Readable card.now seen body.now }
+fn make_file(card: &[u8], seen: Counted, body: &[u8], out: &mut [u8]) -> CardRead
+    requires { Readable card.now seen.card body.now }
     ensures value { result ≡ file_answer card.now (length out.old) }
     ensures out_after { out.new ≡ file_after card.now out.old }
 {
     let mut file = [0u8; FILE_LIMIT];
-    let length = put_file(seen, body, &mut file);
+    let length = seen.put_file(body, &mut file);
     let verdict = file_refusal(card, seen, &file[..length], out.len());
     // A refusal hands back zeros beside its verdict.
     if is_refused(verdict) {
@@ -103,8 +103,8 @@ fn make_file(card: &[u8], seen: Card, body: &[u8], out: &mut [u8]) -> CardRead
 }
 
 // Why the file is not written: its tests, then the room.
-fn file_refusal(card: &[u8], seen: Card, file: &[u8], space: usize) -> Verdict
-    requires { Filed card.now seen file.now }
+fn file_refusal(card: &[u8], seen: Counted, file: &[u8], space: usize) -> Verdict
+    requires { Filed card.now seen.card file.now }
     ensures { result ≡ filing card.now space }
 {
     file_verdict(card, seen, file)?;
@@ -118,11 +118,11 @@ fn file_refusal(card: &[u8], seen: Card, file: &[u8], space: usize) -> Verdict
 }
 
 // The tests of the file.
-fn file_verdict(card: &[u8], seen: Card, file: &[u8]) -> Verdict
-    requires { Filed card.now seen file.now }
+fn file_verdict(card: &[u8], seen: Counted, file: &[u8]) -> Verdict
+    requires { Filed card.now seen.card file.now }
     ensures { result ≡ file_verdict card.now }
 {
-    if is_second(seen) {
+    if seen.is_second() {
         return moved_to(card, START_AT, read_second(file).job.verdict);
     }
     moved_to(card, 0, read(file).verdict)

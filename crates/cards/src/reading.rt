@@ -112,6 +112,7 @@ pub(crate) fn walked(text: &[u8], wants: usize, len: usize, body: &mut [u8]) -> 
         comment: false,
         start: 0,
     };
+    // By places and not by bytes: a word is cut out of the text from the place where it starts to this one.
     for k in 0..text.len() {
         walk = turn(walk, text, k, wants, len, body);
     }

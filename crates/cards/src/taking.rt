@@ -50,6 +50,8 @@ fn take_size(card: Card, word: &[u8]) -> Card
     sizing(3, with_n(elements as usize, card.head), card)
 }
 
+// From here on `Small` stands beside each card, and `Counted` holds it in filing alone: a word makes a bare card again, so a clause would become a `let`.
+
 // yes or no.
 #[tactic(auto, unfolding(meaning::specs::Card::take_fixed, meaning::specs::Text::ascii))]
 fn take_fixed(card: Card, word: &[u8]) -> Card

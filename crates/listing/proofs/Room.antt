@@ -7,22 +7,25 @@ use borrow.Author.Tests.{le-leb, lt-leb}
 use lib.ListN.{length}
 use Rattle.algebra.specs.Buffers.{Wrote}
 use Rattle.algebra.proofs.Writing.{measured, longer, in_front}
-use Rattle.records.specs.declared.Listed.{Listed}
 use Rattle.meaning.specs.Text.{text_answer, text_after}
 use Rattle.meaning.specs.Refusals.{refused, accepted}
 
--- the answer and the room after are those of writing the text
-abbrev pub Rendered : List ℕ → List ℕ → Listed → List ℕ → Type 0
-Rendered text out r after = (r ≡ text_answer text (length out)) × (after ≡ text_after text out)
-
-module _ (text out : List ℕ) (small : length out < 18446744073709551615) {one one' : List ℕ} {n : ℕ} (dry : Wrote one 0 text one' n) where
+module _ (text out : List ℕ) {one one' : List ℕ} {n : ℕ} (dry : Wrote one 0 text one' n) (small : length out < 18446744073709551615) where
   -- too long: refused, and the room is as it was
-  pub no_room : length out < n → Rendered text out (record { verdict = refused 10 0; length = 0 }) out
-  no_room l = rw (lt-leb (length text) (length out) (longer (length out) dry small l)) (refl, refl)
+  pub refused_value : length out < n → record { verdict = refused 10 0; length = 0 } ≡ text_answer text (length out)
+  refused_value l = rw (lt-leb (length text) (length out) (longer (length out) dry small l)) refl
+
+  pub refused_room : length out < n → out ≡ text_after text out
+  refused_room l = rw (lt-leb (length text) (length out) (longer (length out) dry small l)) refl
 
   -- with room: its length, and the text in front
-  pub in_room : {after : List ℕ} {r : ℕ} → n ≤ length out → Wrote out 0 text after r → Rendered text out (record { verdict = accepted; length = n }) after
-  in_room l w =
-      let counted : n ≡ length text = measured dry (omega arith) in
-      let fits : length text ≤ length out = omega arith in
-      rw (le-leb (length text) (length out) fits) ((λ j. record { verdict = accepted; length = counted j }), in_front w fits small)
+  counted : n ≤ length out → n ≡ length text
+  counted l = measured dry (omega arith)
+
+  pub written_value : n ≤ length out → record { verdict = accepted; length = n } ≡ text_answer text (length out)
+  written_value l =
+      let e : n ≡ length text = counted l in
+      rw (le-leb (length text) (length out) (omega arith)) (λ j. record { verdict = accepted; length = e j })
+
+  pub written_room : {after : List ℕ} {r : ℕ} → n ≤ length out → Wrote out 0 text after r → after ≡ text_after text out
+  written_room l w = let e : n ≡ length text = counted l in rw (le-leb (length text) (length out) (omega arith)) (in_front w (omega arith) small)

@@ -19,19 +19,10 @@ pub fn certificate(bytes: &[u8], out: &mut [u8]) -> Listed
     let solved = solve(bytes, &mut words, &mut values, &mut deviations);
     let found = read(bytes);
     let hundredths = column(&values, solved.denominator, found.set);
-    let v = solved.parameters.v as usize;
-    certify(
-        bytes,
-        0,
-        &hundredths[..v],
-        solved,
-        found.set,
-        found.sum,
-        out,
-    )
+    certify(bytes, 0, &hundredths, solved, found, out)
 }
 
-// The same of a file of the second edition, with the names that stand in it.
+// The same of a file of the second edition, with the names that stand in it. The two differ in each call, in its edition; what follows is one function.
 pub fn certificate_second(bytes: &[u8], out: &mut [u8]) -> Listed
     ensures value { result ≡ certified_answer2 bytes.now (length out.old) }
     ensures out_after { out.new ≡ certified_after2 bytes.now out.old }
@@ -41,16 +32,6 @@ pub fn certificate_second(bytes: &[u8], out: &mut [u8]) -> Listed
     let mut deviations = [0i64; 1300];
     let solved = solve_second(bytes, &mut words, &mut values, &mut deviations);
     let found = read_second(bytes);
-    let job = found.job;
-    let hundredths = column(&values, solved.denominator, job.set);
-    let v = solved.parameters.v as usize;
-    certify(
-        bytes,
-        found.names_at,
-        &hundredths[..v],
-        solved,
-        job.set,
-        job.sum,
-        out,
-    )
+    let hundredths = column(&values, solved.denominator, found.job.set);
+    certify(bytes, found.names_at, &hundredths, solved, found.job, out)
 }

@@ -1,5 +1,5 @@
 // The certificate of what was worked out: its lines one after the other, rendered into lent room.
-ghost use Rattle.std.specs.Prelude.{◌≡◌, ◌≤◌, pos, ◌*ℤ◌, nat_abs, length};
+ghost use Rattle.std.specs.Prelude.{◌≡◌, ◌≤◌, pos, ◌*ℤ◌, nat_abs, length, take};
 ghost use Rattle.algebra.specs.Buffers.{Wrote};
 ghost use Rattle.meaning.specs.Refusals.{sum_limit};
 ghost use Rattle.meaning.specs.Text.{text_answer, text_after};
@@ -12,7 +12,7 @@ use crate::columns::{
 use crate::lines::put_refused;
 use analysis::uncertainty::uncertainty_in;
 use printing::{put_byte, put_number, put_text};
-use records::{Listed, Parameters, Refusal, Solved, Spreading, Uncertainty};
+use records::{JobRead, Listed, Parameters, Refusal, Solved, Spreading, Uncertainty};
 use words::holds;
 
 // What stands above the weights: the title, the design, the names of the columns.
@@ -185,22 +185,25 @@ fn put_certificate(
     }
 }
 
-// The text at the front of `out`, whose other bytes stay. A run over one byte of its own finds the length first, so that nothing is written where it
-// has no room.
+// The text at the front of `out`, whose other bytes stay, from the first numbers of a column: one for each object. A run over one byte of its own finds
+// the length first, so that nothing is written where it has no room.
 pub(crate) fn certify(
     bytes: &[u8],
     names: usize,
-    hundredths: &[i64],
+    column: &[i64],
     solved: Solved,
-    set: u64,
-    sum: i64,
+    found: JobRead,
     out: &mut [u8],
 ) -> Listed
-    requires { nat_abs sum ≤ sum_limit }
-    ensures value { result ≡ text_answer (certified_text bytes.now names hundredths.now solved set sum) (length out.old) }
-    ensures out_after { out.new ≡ text_after (certified_text bytes.now names hundredths.now solved set sum)
+    requires long { solved.parameters.v ≤ length column.now }
+    requires small { nat_abs found.sum ≤ sum_limit }
+    ensures value { result ≡ text_answer (certified_text bytes.now names (take solved.parameters.v column.now) solved found.set found.sum)
+        (length out.old) }
+    ensures out_after { out.new ≡ text_after (certified_text bytes.now names (take solved.parameters.v column.now) solved found.set found.sum)
         out.old }
 {
+    let hundredths = &column[..solved.parameters.v as usize];
+    let JobRead { set, sum, .. } = found;
     let mut one = [0u8; 1];
     let length = put_certificate(&mut one, 0, bytes, names, hundredths, solved, set, sum);
     if out.len() < length {

@@ -13,28 +13,12 @@ use Rattle.algebra.specs.Ranges.{sum_ℕ}
 use Rattle.records.specs.declared.Head.{Head}
 use Rattle.records.specs.declared.Solved.{Solved}
 use Rattle.records.specs.declared.JobSpread.{JobSpread}
-use Rattle.records.specs.declared.SquareSum.{SquareSum}
 use Rattle.records.specs.declared.BlockDeviation.{BlockDeviation}
 use Rattle.meaning.specs.Design.{objects, blocks}
-use Rattle.meaning.specs.Analysis.{member, deviation_of, vbeta, qOf}
+use Rattle.meaning.specs.Analysis.{member, deviation_of, vbeta}
 use Rattle.meaning.specs.Refusals.{Verdict, ◌⨾◌, accepted, refused, number, place, clean, in_balance, restraint, in_reach, room}
-use Rattle.meaning.specs.Calls.{
-  given,
-  slices,
-  contents,
-  job_verdict,
-  readings_verdict,
-  rooms,
-  analyse_verdict,
-  solved_under,
-  deviations_verdict,
-  deviation_verdict,
-  deviation_answer,
-  spreading_of,
-  no_spreading,
-  spread_answer,
-  square_sum,
-}
+use Rattle.meaning.specs.Calls.{given, slices, contents, job_verdict, readings_verdict, rooms, analyse_verdict}
+use Rattle.meaning.specs.Calls.{solved_under, deviations_verdict, deviation_verdict, deviation_answer, spreading_of, no_spreading, spread_answer}
 use Rattle.laws.specs.Fits.{Fits}
 use Rattle.laws.proofs.Chains.{accepts, goes_on, refused_stays, accepted-last, test_yes, test_no, sliced, measured}
 use Rattle.verdicts.proofs.Told.{refusing}
@@ -126,11 +110,3 @@ module _ (h : Head) (d : List ℕ) (y : List ℤ) where
   pub spread_of_solved : (r : Solved) → r ≡ solved_under (deviations_verdict h d y 1300) h d y 3 →
       ◌≡◌ {A = JobSpread} (record { verdict = r.verdict; spreading = r.spreading }) (spread_answer h d y)
   spread_of_solved r e = ap (λ (r : Solved). record { verdict = r.verdict; spreading = r.spreading }) e ∙ ap spread-under spread-verdict
-
-  -- Q is that of the spread, on a refusal too
-  pub q_of_spread : square_sum (readings_verdict h d y) (qOf h d y) ≡ record { verdict = readings_verdict h d y; sum = (spread_answer h d y).spreading.q }
-  q_of_spread = by (readings_verdict h d y)
-    where
-      by : (v : Verdict) → ◌≡◌ {A = SquareSum} (square_sum v (qOf h d y)) (record { verdict = v; sum = (given v (spreading_of h d y) no_spreading).q })
-      by (Ok done) = refl
-      by (Err why) = refl

@@ -1,8 +1,7 @@
 -- The verdict of a card by the first of its tests that refuses, and the answer that goes with it. Assumes nothing.
-use Rattle.std.proofs.Common.{Ok, Err}
 use Prim.Native.Nat.{ℕ, ◌≤◌, ◌<◌}
-use mathlib.Core.Path.{◌≡◌, refl, sym}
-use mathlib.Core.Bool.{true, false, false≢true}
+use mathlib.Core.Path.{◌≡◌, refl}
+use mathlib.Core.Bool.{true, false}
 use mathlib.Core.List.{List, ◌++◌}
 use native.Mathlib.Omega.{arith}
 use borrow.Author.Tests.{lt-ltb, le-ltb, leb-true}
@@ -10,9 +9,9 @@ use lib.Dec.{leb}
 use lib.ListN.{length, drop}
 use Rattle.algebra.specs.Buffers.{Wrote}
 use Rattle.algebra.proofs.Writing.{counts, in_front}
+use Rattle.records.specs.declared.Card.{Card}
 use Rattle.records.specs.declared.CardRead.{CardRead}
 use Rattle.meaning.specs.Refusals.{Verdict, accepted, refused, room}
-use Rattle.meaning.specs.Calls.{given}
 use Rattle.meaning.specs.File.{read_verdict}
 use Rattle.meaning.specs.Edition2.{read_verdict2}
 use Rattle.meaning.specs.Card.{card_of, card_file, word_in, is_second, is_whole, moved_to, file_verdict, card_verdict, card_wants, card_answer, card_after}
@@ -35,35 +34,36 @@ module _ (s out : List ℕ) where
   unfolding card_verdict card_wants
   too_long l = unread-is 0 22 (rw (lt-ltb 65536 (length s) l)) (rw (lt-ltb 65536 (length s) l))
 
-  module _ (short : length s ≤ 65536) where
+  -- what was seen of it
+  module _ (short : length s ≤ 65536) {seen : Card} (is : seen ≡ card_of s) where
     -- a word is not what it was to be
-    pub bad-word : (card_of s).bad ≡ true → Answers (unreadable (word_in 21 65536 s) (card_of s).wants) out
+    pub bad-word : seen.bad ≡ true → Answers (unreadable (word_in 21 65536 s) seen.wants) out
     unfolding card_verdict card_wants
-    bad-word b = unread-is (word_in 21 65536 s) (card_of s).wants (rw (le-ltb 65536 (length s) short, b)) (rw (le-ltb 65536 (length s) short, b))
+    bad-word b = unread-is (word_in 21 65536 s) seen.wants (rw (le-ltb 65536 (length s) short, ← is, b)) (rw (le-ltb 65536 (length s) short, ← is, b))
 
-    module _ (good : (card_of s).bad ≡ false) where
+    module _ (good : seen.bad ≡ false) where
       -- it ends too early
-      pub too_early : is_whole (card_of s) ≡ false → Answers (unreadable (length s) (card_of s).wants) out
+      pub too_early : is_whole seen ≡ false → Answers (unreadable (length s) seen.wants) out
       unfolding card_verdict card_wants
-      too_early n = unread-is (length s) (card_of s).wants (rw (le-ltb 65536 (length s) short, good, n)) (rw (le-ltb 65536 (length s) short, good, n))
+      too_early n = unread-is (length s) seen.wants (rw (le-ltb 65536 (length s) short, ← is, good, n)) (rw (le-ltb 65536 (length s) short, ← is, good, n))
 
-      module _ (whole : is_whole (card_of s) ≡ true) where
+      module _ (whole : is_whole seen ≡ true) where
         -- its words give more than a file holds
-        pub too_many : 16348 < (card_of s).length → Answers (unreadable (word_in 21 16348 s) 22) out
+        pub too_many : 16348 < seen.length → Answers (unreadable (word_in 21 16348 s) 22) out
         unfolding card_verdict card_wants
         too_many l = unread-is (word_in 21 16348 s) 22
-            (rw (le-ltb 65536 (length s) short, good, whole, lt-ltb 16348 (card_of s).length l))
-            (rw (le-ltb 65536 (length s) short, good, whole, lt-ltb 16348 (card_of s).length l))
+            (rw (le-ltb 65536 (length s) short, ← is, good, whole, lt-ltb 16348 seen.length l))
+            (rw (le-ltb 65536 (length s) short, ← is, good, whole, lt-ltb 16348 seen.length l))
 
         -- it can be read: the answer is that of its file
-        module _ (few : (card_of s).length ≤ 16348) where
+        module _ (few : seen.length ≤ 16348) where
           verdict-file : card_verdict s ≡ file_verdict s
           unfolding card_verdict
-          verdict-file = rw (le-ltb 65536 (length s) short, good, whole, le-ltb 16348 (card_of s).length few)
+          verdict-file = rw (le-ltb 65536 (length s) short, ← is, good, whole, le-ltb 16348 seen.length few)
 
           wants_none : card_wants s ≡ 0
           unfolding card_wants
-          wants_none = rw (le-ltb 65536 (length s) short, good, whole, le-ltb 16348 (card_of s).length few)
+          wants_none = rw (le-ltb 65536 (length s) short, ← is, good, whole, le-ltb 16348 seen.length few)
 
           pub can_be_read : (file_answer s (length out) ≡ card_answer s (length out)) × (file_after s out ≡ card_after s out)
           unfolding card_answer card_after
@@ -85,11 +85,6 @@ module _ (s : List ℕ) where
     -- the answer of its file, and the room after
     abbrev pub Files : CardRead → List ℕ → Type 0
     Files r after = (r ≡ file_answer s (length out)) × (after ≡ file_after s out)
-
-    -- refused: no byte is written
-    pub unfiled : (v : Verdict) → v ≡ filing s (length out) → given v false true ≡ true → Files (record { verdict = v; wants = 0; length = 0 }) out
-    unfiled (Ok done) e r = absurd (false≢true r)
-    unfiled (Err why) e r = rw (sym e) (refl, refl)
 
     -- accepted: there is room for the file, and it stands in front
     module _ (e : filing s (length out) ≡ accepted) where

@@ -21,8 +21,7 @@ use Rattle.algebra.proofs.Tests.{and_right}
 use Rattle.algebra.proofs.Filling.{over_ext, over-over, get_d_over, length_over}
 use Rattle.algebra.proofs.Sums.{sumℕ-none, sumℕ-more, sumℕ_cong, sumℕ_add, sumℕ_only, sumℕ-zero}
 use Rattle.records.specs.declared.Head.{Head}
-use Rattle.records.specs.declared.Parameters.{Parameters}
-use Rattle.meaning.specs.Design.{objects, blocks, list_length, occ, left, right, parameters_of}
+use Rattle.meaning.specs.Design.{objects, blocks, list_length, occ, left, right}
 use Rattle.meaning.specs.Analysis.{member}
 use Rattle.meaning.specs.Refusals.{Verdict, accepted, number, place, ◌⨾◌, sizes, length_is, clean, in_balance, room}
 use Rattle.meaning.specs.Calls.{given, word, word_at, design_verdict, develop_verdict, develop_after, judge_verdict}
@@ -34,7 +33,7 @@ use Rattle.words.proofs.Bits.{bit-most}
 use Rattle.words.proofs.Members.{bit_word}
 use Rattle.groups.specs.Words.{members_at, word_in_members}
 use Rattle.verdicts.proofs.Told.{refusing}
-use Rattle.groups.specs.Base.{sizes_verdict, no_set, in_groups_of, laid_answer, laid_words}
+use Rattle.groups.specs.Base.{sizes_verdict, no_set, laid_answer, laid_words}
 
 -- ---- the sum
 
@@ -200,27 +199,10 @@ module _ (h : Head) (d : List ℕ) (g len : ℕ) where
   pub set-refused : (verdict : Verdict) → given verdict false true ≡ true → base_verdict h d g len ≡ verdict → no_set verdict ≡ base_answer h d g len
   set-refused verdict r e = rw (e ∙ refusing verdict r) (ap no_set (refusing verdict r))
 
-  pub laid-refused : (verdict : Verdict) → given verdict false true ≡ true → verdict ≡ develop_verdict h d len → no_set verdict ≡ laid_answer h d g len
-  laid-refused verdict r e = rw (sym e ∙ refusing verdict r) (ap no_set (refusing verdict r))
-
-  -- what an acceptance does
-  pub laid-accepted : develop_verdict h d len ≡ accepted → (q : Parameters) → q ≡ parameters_of h d →
-      record { verdict = accepted; parameters = in_groups_of g q } ≡ laid_answer h d g len
-  laid-accepted e q f = rw (e, f)
-
 -- a refusal leaves the words
 pub words-kept : (h : Head) (d : List ℕ) (g : ℕ) (words : List ℕ) (verdict : Verdict) → given verdict false true ≡ true →
     base_verdict h d g (length words) ≡ verdict → words ≡ base_words h d g words
 words-kept h d g words verdict r e = sym (given_no _ _ _ (number verdict) (place verdict) (e ∙ refusing verdict r))
-
-pub laid_kept : (h : Head) (d : List ℕ) (g : ℕ) (words : List ℕ) (verdict : Verdict) → given verdict false true ≡ true →
-    verdict ≡ develop_verdict h d (length words) → words ≡ laid_words h d g words
-laid_kept h d g words verdict r e = sym (given_no _ _ _ (number verdict) (place verdict) (sym e ∙ refusing verdict r))
-
--- the words of a refused development are those that were lent
-pub developed-kept : (h : Head) (d words : List ℕ) (verdict : Verdict) {after : List ℕ} → given verdict false true ≡ true →
-    verdict ≡ develop_verdict h d (length words) → after ≡ develop_after h d words → after ≡ words
-developed-kept h d words verdict r e w = w ∙ given_no _ _ _ (number verdict) (place verdict) (sym e ∙ refusing verdict r)
 
 -- what is laid is what the call answers
 pub base_laid : (h : Head) (d : List ℕ) (g len : ℕ) → base_verdict h d g len ≡ develop_verdict h d len → laid_answer h d g len ≡ base_answer h d g len

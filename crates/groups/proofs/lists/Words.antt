@@ -4,11 +4,11 @@
 --     list_in_words                     the words of an accepted list, as the counting takes them
 -- Assumes nothing.
 use Prim.Native.Nat.{ℕ, ◌+◌, ◌-◌, ◌*◌, ◌/◌, ◌%◌, ◌^◌, ◌≤◌, ◌<◌}
-use mathlib.Core.Path.{◌≡◌, sym, ap, ◌∙◌, subst}
+use mathlib.Core.Path.{◌≡◌, sym, ap, ◌∙◌}
 use mathlib.Core.List.{List, [], ◌∷◌}
 use native.Mathlib.Numerals.{add-one}
 use native.Mathlib.Omega.{arith}
-use native.Mathlib.Nat.{one-mul, mul-suc, mul-le-mul, mul-le-mul_left}
+use native.Mathlib.Nat.{one-mul}
 use lib.Dec.{lit<}
 use lib.Pow.{pow_mono, shl_exact}
 use lib.ListN.{length, get_or, take, drop}
@@ -18,7 +18,6 @@ use Rattle.algebra.proofs.Filling.{get_d_over, length_over}
 use Rattle.meaning.specs.Calls.{word}
 use Rattle.meaning.specs.Groups.{left_of, right_of}
 use Rattle.laws.proofs.Occurrences.{Each, each-head, each_tail}
-use Rattle.laws.proofs.Clean.{part_length, part_byte}
 use Rattle.laws.proofs.Groups.{Listed, list_left, list_right, list-once}
 use Rattle.balance.proofs.Blocks.{InWords}
 use Rattle.groups.specs.Words.{list_word_at}
@@ -79,22 +78,6 @@ module _ (p : ℕ) (d : List ℕ) (k : ℕ) where
   right-lent =
       let e : 2 * p * k + p + p - (2 * p * k + p) ≡ p = omega arith in
       rw e (sym right-at)
-
--- block k of a list lies within it
-pub part_in : (q k count : ℕ) → k < count → q * k + q ≤ q * count
-part_in q k count l = omega (arith, mul-le-mul_left q l, mul-suc q k)
-
--- a list has at most 65,000 bytes
-pub list-most : (p count : ℕ) → count ≤ 1300 → p ≤ 25 → 2 * p * count ≤ 65000
-list-most p count l m =
-    let side : 2 * p ≤ 50 = omega arith in
-    omega (arith, mul-le-mul side l)
-
--- the bytes of a part are objects
-pub part_small : (d : List ℕ) (a len : ℕ) → a + len ≤ length d → ((i : ℕ) → i < length d → get_or d i 0 < 50) → Each (λ x. x < 50) (take len (drop a d))
-part_small d a len l h i m =
-    let m' : i < len = omega (arith, part_length d a len l) in
-    subst (λ (x : ℕ). x < 50) (sym (part_byte d a len i m')) (h (a + i) (omega arith))
 
 -- they are all there
 pub list-long : (count p : ℕ) (d l : List ℕ) {ws : List ℕ} → count ≤ 1300 → length l ≡ 2600 → ws ≡ over (2 * count) (list_word_at p d) l → 2 * count ≤ length ws

@@ -9,7 +9,6 @@ use lib.IntN.{ℤ, pos, nat_abs, ◌*ℤ◌}
 use lib.ListN.{length, get_or, take}
 use lib.Seq.{length-take-le, get_or-take}
 use Rattle.algebra.specs.Buffers.{over}
-use Rattle.algebra.proofs.Filling.{length_over}
 use Rattle.records.specs.declared.Head.{Head}
 use Rattle.records.specs.declared.JobRead.{JobRead}
 use Rattle.records.specs.declared.SecondRead.{SecondRead}
@@ -19,7 +18,7 @@ use Rattle.meaning.specs.Analysis.{member, numerator_of, denominator_of, vbeta, 
 use Rattle.meaning.specs.Publishing.{published}
 use Rattle.meaning.specs.Wide.{value, wide}
 use Rattle.meaning.specs.Refusals.{Verdict, accepted, sum_limit}
-use Rattle.meaning.specs.Calls.{given, job_verdict, values_under, spreading_of, solved_under}
+use Rattle.meaning.specs.Calls.{given, no_parameters, job_verdict, values_under, spreading_of, solved_under}
 use Rattle.meaning.specs.File.{head_of, blocks_of, readings_of, set_of, sum_of, read_verdict, read_answer, solve_verdict}
 use Rattle.meaning.specs.Text.{digits, each}
 use Rattle.meaning.specs.Edition2.{four_of, names_at, read_verdict2, read_answer2, solve_verdict2}
@@ -41,13 +40,13 @@ use Rattle.laws.proofs.Column.{job_adds_up}
 use Rattle.laws.proofs.Files.{file-job}
 use Rattle.laws.proofs.Edition2.{file_job2}
 use Rattle.arithmetic.specs.Uncertainties.{uncertainty_in}
-use Rattle.analysis.specs.Column.{hundredths_from, column_of}
+use Rattle.analysis.specs.Column.{column_of}
 use Rattle.analysis.proofs.Column.{column-published}
 use Rattle.analysis.proofs.values.Refusing.{factor-is}
 use Rattle.analysis.proofs.uncertainty.Stating.{uncertainty_of_job}
 use Rattle.printing.proofs.Each.{each_same}
 use Rattle.listing.specs.Certified.{heading_text, weight_at, weight_lines, certified_lines, certified_text}
-use Rattle.listing.proofs.whole.Worked.{rooms_enough, rooms_enough2}
+use Rattle.listing.proofs.whole.Worked.{column-long, rooms_enough, rooms_enough2}
 
 -- two figures, and two more, among what stands before and after
 regroup : (h w a b s t p : List ℕ) → h ++ w ++ (a ++ b) ++ (s ++ t) ++ p ≡ h ++ w ++ a ++ b ++ s ++ t ++ p
@@ -70,11 +69,8 @@ module _ (h : Head) (d : List ℕ) (y : List ℤ) (w : ℕ) (M : ℤ) (e : job_v
   abbrev a : List ℤ
   a = take (objects h) column
 
-  column-long : length column ≡ 50
-  column-long = length_over 50 (hundredths_from (over (objects h) (numerator_of h d y w M) values) (denominator_of h d w) w) (replicate 50 (pos 0))
-
   long : length a ≡ objects h
-  long = length-take-le (objects h) column (omega (arith, column-long, few))
+  long = length-take-le (objects h) column (omega (arith, column-long (over (objects h) (numerator_of h d y w M) values) (denominator_of h d w) w, few))
 
   weight : (i : ℕ) → i < objects h → weight_at s names a (solved_under accepted h d y w) w i ≡
       weight_line i (name_from s names i) (member w i) (published h d y w M i) (uncertainty_of h d y w i)
@@ -132,6 +128,12 @@ sum-small four (Err why) e = omega arith
 abbrev zeros : List ℤ
 zeros = replicate 50 (pos 0)
 
+-- as many numbers of the column are handed on as the answer counts
+enough : (four : List ℕ) (v : Verdict) → (v ≡ accepted → read_verdict four ≡ accepted) →
+    (given v (parameters_of (head_of four) (blocks_of four)) no_parameters).v ≤ 50
+enough four (Ok done) e = (job _ _ _ _ _ (file-job four (e refl)).1).measures.design.sizes.objects-most
+enough four (Err why) e = omega arith
+
 module _ (s : List ℕ) where
   pub read_small : {found : JobRead} → found ≡ read_answer s → nat_abs found.sum ≤ sum_limit
   read_small e = rw e (sum-small s (read_verdict s) (λ a. a))
@@ -139,14 +141,18 @@ module _ (s : List ℕ) where
   abbrev verdict : Verdict
   verdict = solve_verdict s 2600 50 1300
 
-  pub certificate_is : {r : Solved} {after : List ℤ} {found : JobRead} →
-      r ≡ solved_under verdict (head_of s) (blocks_of s) (readings_of s) (set_of s) →
-      after ≡ values_under verdict (head_of s) (blocks_of s) (readings_of s) (set_of s) (sum_of s) zeros → found ≡ read_answer s →
-      certified_text s 0 (take r.parameters.v (column_of after r.denominator found.set)) r found.set found.sum ≡ certificate_of s
-  unfolding certificate_of
-  certificate_is says first read =
-      rw (says, first, read, rooms_enough s (replicate 2600 0) zeros (replicate 1300 (pos 0)) (omega arith) refl (omega arith))
-      (text s s 0 zeros refl (read_verdict s) (λ a. a))
+  module _ {r : Solved} {after column : List ℤ} {found : JobRead} (says : r ≡ answer s s 0 zeros refl verdict) (first : after ≡ left s s 0 zeros refl verdict)
+      (read : found ≡ read_answer s) (worked : column ≡ column_of after r.denominator found.set) where
+    -- the column has a number for each object
+    pub column_fits : r.parameters.v ≤ length column
+    column_fits =
+        let long : length column ≡ 50 = (λ j. length (worked j)) ∙ column-long after r.denominator found.set in
+        rw (says, rooms_enough s) (omega (arith, long, enough s (read_verdict s) (λ a. a)))
+
+    -- and its first numbers give the certificate
+    pub certificate_is : certified_text s 0 (take r.parameters.v column) r found.set found.sum ≡ certificate_of s
+    unfolding certificate_of
+    certificate_is = rw (worked, says, first, read, rooms_enough s) (text s s 0 zeros refl (read_verdict s) (λ a. a))
 
 -- ---- the same read as a file of the second edition
 
@@ -171,13 +177,14 @@ module _ (s : List ℕ) where
   text2 (Ok done) e = text (four_of s) s (names_at s) zeros refl accepted e
   text2 (Err why) e = refl
 
-  pub certificate_is2 : {r : Solved} {after : List ℤ} {found : SecondRead} →
-      r ≡ solved_under verdict2 (head_of (four_of s)) (blocks_of (four_of s)) (readings_of (four_of s)) (set_of (four_of s)) →
-      after ≡ values_under verdict2 (head_of (four_of s)) (blocks_of (four_of s)) (readings_of (four_of s)) (set_of (four_of s)) (sum_of (four_of s)) zeros →
-      found ≡ read_answer2 s →
-      certified_text s found.names_at (take r.parameters.v (column_of after r.denominator found.job.set)) r found.job.set found.job.sum
-      ≡ certificate_of2 s
-  unfolding certificate_of2
-  certificate_is2 says first read =
-      rw (says, first, read, rooms_enough2 s (replicate 2600 0) zeros (replicate 1300 (pos 0)) (omega arith) refl (omega arith))
-      (text2 (read_verdict2 s) four-accepts)
+  module _ {r : Solved} {after column : List ℤ} {found : SecondRead} (says : r ≡ answer (four_of s) s 0 zeros refl verdict2)
+      (first : after ≡ left (four_of s) s 0 zeros refl verdict2) (read : found ≡ read_answer2 s) (worked : column ≡ column_of after r.denominator found.job.set)
+    where
+      pub column_fits2 : r.parameters.v ≤ length column
+      column_fits2 =
+          let long : length column ≡ 50 = (λ j. length (worked j)) ∙ column-long after r.denominator found.job.set in
+          rw (says, rooms_enough2 s) (omega (arith, long, enough (four_of s) (read_verdict2 s) four-accepts))
+
+      pub certificate_is2 : certified_text s found.names_at (take r.parameters.v column) r found.job.set found.job.sum ≡ certificate_of2 s
+      unfolding certificate_of2
+      certificate_is2 = rw (worked, says, first, read, rooms_enough2 s) (text2 (read_verdict2 s) four-accepts)

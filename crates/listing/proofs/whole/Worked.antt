@@ -2,7 +2,7 @@
 -- Assumes nothing.
 use Rattle.std.proofs.Common.{Ok, Err}
 use mathlib.Core.Path.{◌≡◌, refl, sym, ◌∙◌}
-use mathlib.Core.List.{List, ◌++◌}
+use mathlib.Core.List.{List, ◌++◌, replicate}
 use Prim.Native.Nat.{ℕ, ◌*◌, ◌≤◌, ◌<◌}
 use native.Mathlib.Omega.{arith}
 use borrow.Author.Tests.{le-leb}
@@ -25,10 +25,22 @@ use Rattle.laws.specs.Fits.{Fits}
 use Rattle.laws.proofs.Chains.{job, goes_on}
 use Rattle.laws.proofs.Files.{file-job}
 use Rattle.laws.proofs.Edition2.{file_job2}
-use Rattle.analysis.specs.Column.{column_of}
+use Rattle.analysis.specs.Column.{hundredths_from, column_of}
 use Rattle.analysis.proofs.Column.{column-published}
 use Rattle.printing.proofs.Each.{each_same}
-use Rattle.listing.specs.Sheet.{value_at, value_lines, deviation_at, deviation_lines, job_lines, sheet_text}
+use Rattle.listing.specs.Sheet.{value_at, value_lines, deviation_at, deviation_lines, job_lines, sheet_text, sheet_of}
+
+-- ---- the rooms of the largest job
+
+abbrev zeros : List ℤ
+zeros = replicate 50 (pos 0)
+
+abbrev more_zeros : List ℤ
+more_zeros = replicate 1300 (pos 0)
+
+-- the column that is worked out from the values is as long as the longest
+pub column-long : (values : List ℤ) (denominator set : ℕ) → length (column_of values denominator set) ≡ 50
+column-long values denominator set = length_over 50 (hundredths_from values denominator set) zeros
 
 -- ---- the first numbers of a room that were written
 
@@ -111,38 +123,35 @@ module _ (s : List ℕ) where
       (omega (arith, (file-sizes e).objects-most)) (omega (arith, (file-sizes e).blocks-most))
   first-text values deviations lv ld (Err why) e = refl
 
-  module _ (words : List ℕ) (values deviations : List ℤ) (lw : 2600 ≤ length words) (lv : length values ≡ 50) (ld : 1300 ≤ length deviations) where
-    abbrev verdict : Verdict
-    verdict = solve_verdict s (length words) (length values) (length deviations)
+  abbrev verdict : Verdict
+  verdict = solve_verdict s 2600 50 1300
 
-    -- such rooms are enough for every file
-    pub rooms_enough : verdict ≡ read_verdict s
-    unfolding solve_verdict rooms
-    rooms_enough = by (read_verdict s) refl
-      where
-        by : (v : Verdict) → read_verdict s ≡ v → v ⨾ rooms (head_of s) (length words) (length values) (length deviations) ≡ v
-        by (Ok done) e =
-            rw (
-              le-leb (2 * blocks (head_of s)) (length words) (omega (arith, (file-sizes e).blocks-most)),
-              le-leb (objects (head_of s)) (length values) (omega (arith, (file-sizes e).objects-most)),
-              le-leb (blocks (head_of s)) (length deviations) (omega (arith, (file-sizes e).blocks-most)),
-            ) refl
-        by (Err why) e = refl
+  -- the rooms of the largest job are enough for every file
+  pub rooms_enough : verdict ≡ read_verdict s
+  unfolding solve_verdict rooms
+  rooms_enough = by (read_verdict s) refl
+    where
+      by : (v : Verdict) → read_verdict s ≡ v → v ⨾ rooms (head_of s) 2600 50 1300 ≡ v
+      by (Ok done) e =
+          rw (
+            le-leb (2 * blocks (head_of s)) 2600 (omega (arith, (file-sizes e).blocks-most)),
+            le-leb (objects (head_of s)) 50 (file-sizes e).objects-most,
+            le-leb (blocks (head_of s)) 1300 (file-sizes e).blocks-most,
+          ) refl
+      by (Err why) e = refl
 
-    module _ {r : Solved} {after after' : List ℤ} (says : r ≡ answer verdict) (first : after ≡ values_left verdict values)
-        (second : after' ≡ deviations_left verdict deviations) where
-      -- the numbers that the answer counts stand in the rooms
-      pub solved_fits : (r.parameters.v ≤ length after) × (r.parameters.b ≤ length after')
-      solved_fits = rw (says, first, second, rooms_enough) (omega (arith, few (read_verdict s) refl, left-long (read_verdict s) values deviations))
+  module _ {r : Solved} {after after' column : List ℤ} {set : ℕ} (says : r ≡ answer verdict) (first : after ≡ values_left verdict zeros)
+      (second : after' ≡ deviations_left verdict more_zeros) (held : set ≡ set_of s) (worked : column ≡ column_of after r.denominator set) where
+    -- the numbers that the answer counts stand in the rooms
+    pub solved_fits : (r.parameters.v ≤ length after) × (r.parameters.v ≤ length column) × (r.parameters.b ≤ length after')
+    solved_fits =
+        let long : length column ≡ 50 = (λ j. length (worked j)) ∙ column-long after r.denominator set in
+        rw (says, first, second, rooms_enough) (omega (arith, few (read_verdict s) refl, left-long (read_verdict s) zeros more_zeros, long))
 
-      -- there are at most 50 values
-      pub solved-few : r.parameters.v ≤ 50
-      solved-few = rw (says, rooms_enough) (few (read_verdict s) refl).0
-
-      -- and their text is the text of the file
-      pub solved-text : sheet_text r (take r.parameters.v after) (column_of after r.denominator (set_of s)) (take r.parameters.b after') ≡ text_of s
-      unfolding text_of
-      solved-text = rw (says, first, second, rooms_enough) (first-text values deviations lv ld (read_verdict s) refl)
+    -- and their text is the text of the file
+    pub solved-text : sheet_of r after column after' ≡ text_of s
+    unfolding text_of
+    solved-text = rw (worked, held, says, first, second, rooms_enough) (first-text zeros more_zeros refl (omega arith) (read_verdict s) refl)
 
 -- ---- any byte string as a file of the second edition: the text is that of its four fields, under its own verdict
 
@@ -166,29 +175,25 @@ module _ (s : List ℕ) where
   first_text2 values deviations lv ld (Ok done) e = first-text four values deviations lv ld accepted (four-accepts accepted e refl)
   first_text2 values deviations lv ld (Err why) e = refl
 
-  module _ (words : List ℕ) (values deviations : List ℤ) (lw : 2600 ≤ length words) (lv : length values ≡ 50) (ld : 1300 ≤ length deviations) where
-    abbrev verdict2 : Verdict
-    verdict2 = solve_verdict2 s (length words) (length values) (length deviations)
+  abbrev verdict2 : Verdict
+  verdict2 = solve_verdict2 s 2600 50 1300
 
-    -- the rooms are enough, as they are for the four fields
-    pub rooms_enough2 : verdict2 ≡ read_verdict2 s
-    unfolding solve_verdict2 solve_verdict
-    rooms_enough2 = by (read_verdict2 s) refl
-      where
-        by : (v : Verdict) → read_verdict2 s ≡ v → v ⨾ rooms (head_of four) (length words) (length values) (length deviations) ≡ v
-        by (Ok done) e =
-            let f = four-accepts accepted e refl in
-            sym (goes_on (rooms (head_of four) (length words) (length values) (length deviations)) f) ∙ rooms_enough four words values deviations lw lv ld ∙ f
-        by (Err why) e = refl
+  -- the rooms are enough, as they are for the four fields
+  pub rooms_enough2 : verdict2 ≡ read_verdict2 s
+  unfolding solve_verdict2 solve_verdict
+  rooms_enough2 = by (read_verdict2 s) refl
+    where
+      by : (v : Verdict) → read_verdict2 s ≡ v → v ⨾ rooms (head_of four) 2600 50 1300 ≡ v
+      by (Ok done) e = let f = four-accepts accepted e refl in sym (goes_on (rooms (head_of four) 2600 50 1300) f) ∙ rooms_enough four ∙ f
+      by (Err why) e = refl
 
-    module _ {r : Solved} {after after' : List ℤ} (says : r ≡ answer four verdict2) (first : after ≡ values_left four verdict2 values)
-        (second : after' ≡ deviations_left four verdict2 deviations) where
-      pub solved_fits2 : (r.parameters.v ≤ length after) × (r.parameters.b ≤ length after')
-      solved_fits2 = rw (says, first, second, rooms_enough2) (omega (arith, few2 (read_verdict2 s) refl, left-long four (read_verdict2 s) values deviations))
+  module _ {r : Solved} {after after' column : List ℤ} {set : ℕ} (says : r ≡ answer four verdict2) (first : after ≡ values_left four verdict2 zeros)
+      (second : after' ≡ deviations_left four verdict2 more_zeros) (held : set ≡ set_of four) (worked : column ≡ column_of after r.denominator set) where
+    pub solved_fits2 : (r.parameters.v ≤ length after) × (r.parameters.v ≤ length column) × (r.parameters.b ≤ length after')
+    solved_fits2 =
+        let long : length column ≡ 50 = (λ j. length (worked j)) ∙ column-long after r.denominator set in
+        rw (says, first, second, rooms_enough2) (omega (arith, few2 (read_verdict2 s) refl, left-long four (read_verdict2 s) zeros more_zeros, long))
 
-      pub solved_few2 : r.parameters.v ≤ 50
-      solved_few2 = rw (says, rooms_enough2) (few2 (read_verdict2 s) refl).0
-
-      pub solved_text2 : sheet_text r (take r.parameters.v after) (column_of after r.denominator (set_of four)) (take r.parameters.b after') ≡ text_of2 s
-      unfolding text_of2
-      solved_text2 = rw (says, first, second, rooms_enough2) (first_text2 values deviations lv ld (read_verdict2 s) refl)
+    pub solved_text2 : sheet_of r after column after' ≡ text_of2 s
+    unfolding text_of2
+    solved_text2 = rw (worked, held, says, first, second, rooms_enough2) (first_text2 zeros more_zeros refl (omega arith) (read_verdict2 s) refl)

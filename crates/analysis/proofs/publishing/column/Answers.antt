@@ -2,7 +2,7 @@
 use Rattle.std.proofs.Common.{◌≡◌, ℕ, ◌/◌, pos, ap, ap₂, ◌∙◌, arith, rules}
 use mathlib.Core.List.{replicate}
 use Rattle.algebra.proofs.Signs.{read_back}
-use Rattle.algebra.proofs.Filling.{over_none, over-step, over-end}
+use Rattle.algebra.proofs.Filling.{over_none, over-step}
 use Rattle.analysis.specs.Column.{numerator_at, part_at, parts_of, parts_in, hundredths_by, hundredths_from}
 use Rattle.meaning.specs.Analysis.{member}
 use Rattle.meaning.specs.Publishing.{rank}
@@ -32,6 +32,3 @@ loop-i-preserved c =
     (shared ∙ ap (λ (n : ℕ). n / d) (parts-laid numerators d parts laid w)) in
     over-step i (hundredths_from numerators d w) (replicate 50 (pos 0)) c.loop-i.invariant
     (read_back c.hundredths_at.result c.hundredths_at.type_inv ∙ is_this) (omega arith)
-
-pub returns : goal.returns
-returns c = over-end _ _ c.loop-i.invariant (omega arith)

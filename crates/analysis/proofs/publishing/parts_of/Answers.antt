@@ -1,7 +1,7 @@
 -- `parts_of`: each turn lays the part of its object. Assumes nothing.
 use Rattle.std.proofs.Common.{◌≡◌, arith, rules}
 use mathlib.Core.List.{replicate}
-use Rattle.algebra.proofs.Filling.{over_none, over-step, over-end}
+use Rattle.algebra.proofs.Filling.{over_none, over-step}
 use Rattle.analysis.specs.Column.{part_from}
 use Rattle.analysis.proofs.publishing.parts_of.Goals as goal
 
@@ -13,6 +13,3 @@ loop-i-preserved c =
     let a = c.args in
     let part : c.hundredths_part.result ≡ part_from a.numerators.now a.denominator c.loop-i.i = search (c.hundredths_part.ensures, rules) in
     over-step c.loop-i.i _ (replicate 50 0) c.loop-i.invariant part (omega arith)
-
-pub returns : goal.returns
-returns c = over-end _ _ c.loop-i.invariant (omega arith)

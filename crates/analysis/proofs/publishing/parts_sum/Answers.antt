@@ -22,12 +22,6 @@ module _ (parts : List ℕ) (small : Small parts) (set i held : ℕ) (more : i <
 pub loop-i-init : goal.loop-i-init
 loop-i-init c = (sumℕ-none _, omega arith)
 
-pub overflow_mul-sum : goal.overflow_mul-sum
-overflow_mul-sum c = record { fits = omega (arith, added-most c.args.parts.now c.requires c.args.set c.loop-i.i _ (omega arith) c.holds.ensures) }
-
-pub overflow_add-sum : goal.overflow_add-sum
-overflow_add-sum c = record { fits = omega (arith, added-most c.args.parts.now c.requires c.args.set c.loop-i.i _ (omega arith) c.holds.ensures) }
-
 pub loop-i-preserved : goal.loop-i-preserved
 loop-i-preserved c =
     let most = added-most c.args.parts.now c.requires c.args.set c.loop-i.i _ (omega arith) c.holds.ensures in (

@@ -32,16 +32,6 @@ module _ (parts : List ℕ) (set object i held goes : ℕ) (e : held ≡ member 
 pub loop-i-init : goal.loop-i-init
 loop-i-init c = (sumℕ-none _, omega arith)
 
-pub overflow_mul-count : goal.overflow_mul-count
-overflow_mul-count c =
-    let a = c.args in
-    record { fits = omega (arith, counted-most a.parts.now a.set a.object c.loop-i.i _ c.goes_before.result c.holds.ensures (search c.goes_before.ensures)) }
-
-pub overflow_add-count : goal.overflow_add-count
-overflow_add-count c =
-    let a = c.args in
-    record { fits = omega (arith, counted-most a.parts.now a.set a.object c.loop-i.i _ c.goes_before.result c.holds.ensures (search c.goes_before.ensures)) }
-
 pub loop-i-preserved : goal.loop-i-preserved
 loop-i-preserved c =
     let a = c.args in

@@ -1,6 +1,5 @@
 -- `row_alike`: a pair with other counts fails the row. Assumes nothing.
-use Rattle.std.proofs.Common.{◌≡◌, ◌∙◌, sym, ap, arith}
-use Rattle.groups.specs.Tables.{row_alike}
+use Rattle.std.proofs.Common.{sym, arith}
 use Rattle.groups.proofs.judging.Tables.{row-none, row_more_lem, row_fails}
 use Rattle.groups.proofs.judging.row_alike.Goals as goal
 
@@ -12,9 +11,3 @@ returns-then-not-meets_as c = sym (row_fails _ _ _ _ _ _ c.loop-j.j (omega arith
 
 pub loop-j-preserved : goal.loop-j-preserved
 loop-j-preserved c = row_more_lem _ _ _ _ _ c.loop-j.j c.loop-j.invariant cc
-
-pub returns : goal.returns
-returns c =
-    let a = c.args in
-    let e : a.i ≡ c.loop-j.j = omega arith in
-    sym (ap (row_alike a.counts a.groups.now a.i a.company.now a.opposition.now) e ∙ c.loop-j.invariant)

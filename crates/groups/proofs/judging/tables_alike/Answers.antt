@@ -1,6 +1,5 @@
 -- `tables_alike`: a row with other counts fails the tables. Assumes nothing.
-use Rattle.std.proofs.Common.{◌≡◌, ◌∙◌, sym, ap, arith}
-use Rattle.groups.specs.Tables.{tables_alike}
+use Rattle.std.proofs.Common.{sym, arith}
 use Rattle.groups.proofs.judging.Tables.{tables_none, tables_more, tables_fail}
 use Rattle.groups.proofs.judging.tables_alike.Goals as goal
 
@@ -12,9 +11,3 @@ returns-then-not-row_alike c = sym (tables_fail _ _ _ _ _ c.loop-i.i (omega arit
 
 pub loop-i-preserved : goal.loop-i-preserved
 loop-i-preserved c = tables_more _ _ _ _ c.loop-i.i c.loop-i.invariant cc
-
-pub returns : goal.returns
-returns c =
-    let a = c.args in
-    let e : a.v ≡ c.loop-i.i = omega arith in
-    sym (ap (tables_alike a.counts a.groups.now a.company.now a.opposition.now) e ∙ c.loop-i.invariant)

@@ -2,7 +2,6 @@
 use Rattle.std.proofs.Common.{◌≡◌, true, false, sym, refl, ap, ◌∙◌, arith, rules, eq-eqb, ne_eqb}
 use Rattle.records.specs.declared.Judged.{Judged}
 use Rattle.meaning.specs.Design.{sized}
-use Rattle.meaning.specs.Calls.{judge_verdict}
 use Rattle.meaning.specs.Practice.{near, practised}
 use Rattle.design.proofs.Within.{within-sizes}
 use Rattle.laws.proofs.Chains.{fits, listed-most, goes_on}

@@ -1,0 +1,2 @@
+-- What a member of the restraint set is given.
+pub mod Serving

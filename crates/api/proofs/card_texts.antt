@@ -1,2 +1,0 @@
--- A text whose length asks for a slot.
-pub mod Slot

@@ -4,9 +4,9 @@ ghost use Rattle.meaning.specs.Sheet.{check_answer};
 
 use crate::publishing::column;
 use crate::whole::analyse;
-use claims::compare;
+use claims::{compare, under};
 use design::objects;
-use records::{Checked, Head, Refusal, Spread};
+use records::{Agreement, Checked, Head, Refusal, Spread};
 
 // Checks a sheet: the tests of the whole job, one claim for each object, then every claim and the spread.
 pub fn check_sheet(
@@ -33,7 +33,7 @@ pub fn check_sheet(
         &mut values,
         &mut deviations,
     );
-    solved.verdict?;
+    under(solved.verdict, Ok(Agreement::Agrees))?;
     let v = objects(head);
     if claims.len() != v {
         return Err(Refusal {

@@ -5,7 +5,7 @@ ghost use Rattle.algebra.specs.Tables.{entry};
 ghost use Rattle.words.specs.Bits.{opposition_of};
 ghost use Rattle.balance.specs.Meetings.{row_more, table_more, countable, counted};
 
-use words::{in_opposition, lowest, without_lowest};
+use words::{in_company, in_opposition, lowest, without_lowest};
 
 // In how many of the first b blocks two objects share a side: row i, column j; an object with itself, in how many it stands.
 pub fn count_company(words: &[u64], b: usize) -> [[u64; 50]; 50]
@@ -75,8 +75,19 @@ fn add_row(own: u64, other: u64, i: usize, row: &mut [u64; 50])
     let mut rest = other;
     let mut j = lowest(rest);
     while j < 64 {
-        row[j] += in_opposition(own, other, i, j);
+        row[j] += meetings(own, other, i, j);
         rest = without_lowest(rest);
         j = lowest(rest);
+    }
+}
+
+// 1 where object i of one side meets object j of another, and 0 otherwise: in company where the two are one side, else in opposition.
+fn meetings(own: u64, other: u64, i: usize, j: usize) -> u64
+    ensures { result ≡ opposition_of own other i j }
+{
+    if own == other {
+        in_company(own, i, j)
+    } else {
+        in_opposition(own, other, i, j)
     }
 }

@@ -3,8 +3,9 @@
 --     right-before     before it every claim is right
 --     against-object, against-spread   the answer by what is found
 --     against_ext      the answer for hundredths that agree
+--     under_refused, under_accepted    what an answer under a verdict says of the verdict
 -- Assumes nothing.
-use Rattle.std.proofs.Common.{Option}
+use Rattle.std.proofs.Common.{Option, Ok, Err}
 use Prim.Native.Nat.{ℕ, zero, suc, ◌+◌, ◌≤◌, ◌<◌}
 use mathlib.Core.Path.{◌≡◌, refl, sym, ap, ap₂, subst, ◌∙◌}
 use mathlib.Core.Bool.{Bool, true, false, cond, not, false≢true}
@@ -15,8 +16,11 @@ use lib.Dec.{ltb}
 use lib.IntN.{ℤ, pos, negsuc}
 use Rattle.algebra.specs.Ranges.{first_from, eq_z}
 use Rattle.algebra.proofs.Tests.{first_from_none, first_bounds, first-before, first-is}
+use Rattle.records.specs.declared.Agreement.{Agreement}
+use Rattle.records.specs.declared.Refusal.{Refusal}
 use Rattle.records.specs.declared.Spread.{Spread}
-use Rattle.meaning.specs.Sheet.{claim, differs_at, against, agrees, differs, same_spread}
+use Rattle.meaning.specs.Refusals.{Verdict, accepted}
+use Rattle.meaning.specs.Sheet.{claim, differs_at, against, agrees, differs, same_spread, checked_under, checked_verdict}
 
 -- ---- whole numbers that are equal, and that differ
 
@@ -129,3 +133,15 @@ unfolding against differs_at
 against_ext v f g spread claims claimed e =
     ap (λ (at : ℕ). cond (ltb at v) (differs at) (cond (same_spread claimed spread) agrees (differs v)))
     (firsts_agree (off v f claims) (off v g claims) 0 v (λ i l m. ap (λ (x : ℤ). not (eq_z (claim claims i) x)) (e i (omega (arith, m)))))
+
+-- ---- an answer under a verdict
+
+-- where it refuses, the verdict is that refusal
+pub under_refused : (v : Verdict) (a : Agreement) (why : Refusal) → checked_under v (Ok a) ≡ Err why → v ≡ Err why
+under_refused (Ok done) a why e = let z : ◌≡◌ {A = ℕ} 0 1 = cc in absurd (omega arith)
+under_refused (Err w) a why e = ap checked_verdict e
+
+-- where it says anything of the sheet, the verdict accepts
+pub under_accepted : (v : Verdict) (a b : Agreement) → checked_under v (Ok a) ≡ Ok b → v ≡ accepted
+under_accepted (Ok done) a b e = refl
+under_accepted (Err w) a b e = let z : ◌≡◌ {A = ℕ} 0 1 = cc in absurd (omega arith)

@@ -6,6 +6,7 @@ ghost use Rattle.meaning.specs.Groups.{list_sized, strays, stray, list_verdict};
 ghost use Rattle.groups.specs.Words.{list_word_at};
 
 use crate::labels::even_groups;
+use design::stands_among;
 use records::{Refusal, Verdict};
 
 // Why a list of blocks is refused, or that it is accepted: the sizes, the two lengths, the groups, then the first byte that is no object or stands
@@ -80,7 +81,7 @@ fn strays(v: usize, p: usize, blocks: &[u8], i: usize) -> bool
     ensures { result ≡ strays v p blocks.now i }
 {
     let byte = blocks[i];
-    usize::from(byte) >= v || blocks[i - i % (2 * p)..i].contains(&byte)
+    usize::from(byte) >= v || stands_among(&blocks[i - i % (2 * p)..i], byte)
 }
 
 // Writes the words of the blocks to the front of the words: left word, right word, next block. A block has two words and two sides, so the loop goes by

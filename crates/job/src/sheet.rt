@@ -8,15 +8,16 @@ ghost use Rattle.job.specs.Direct.{direct_checked};
 use crate::reading::read_refusal;
 use crate::second::{four_fields, second_refusal};
 use analysis::sheet::check_sheet;
+use claims::under;
 use fields::held;
 use numbers::readings;
-use records::{Checked, Spread};
+use records::{Agreement, Checked, Spread};
 
 // Checks a sheet against a file of the first edition.
 pub fn check_file(bytes: &[u8], claims: &[i64], claimed: Option<Spread>) -> Checked
     ensures { result ≡ file_answer bytes.now claims.now claimed }
 {
-    read_refusal(bytes)?;
+    under(read_refusal(bytes), Ok(Agreement::Agrees))?;
     check_held(bytes, claims, claimed)
 }
 
@@ -24,7 +25,7 @@ pub fn check_file(bytes: &[u8], claims: &[i64], claimed: Option<Spread>) -> Chec
 pub fn check_second(bytes: &[u8], claims: &[i64], claimed: Option<Spread>) -> Checked
     ensures { result ≡ second_answer bytes.now claims.now claimed }
 {
-    second_refusal(bytes)?;
+    under(second_refusal(bytes), Ok(Agreement::Agrees))?;
     check_held(four_fields(bytes), claims, claimed)
 }
 

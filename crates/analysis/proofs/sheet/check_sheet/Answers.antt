@@ -15,7 +15,7 @@ use Rattle.meaning.specs.Calls.{job_verdict, analyse_verdict, spreading_of, no_s
 use Rattle.meaning.specs.Sheet.{unchecked, claim, against, claims_fit, checked_under, comparison}
 use Rattle.laws.proofs.Chains.{job, given_yes, goes_on, refused_stays, accepts, test_yes, test_no}
 use Rattle.design.proofs.Within.{within-sizes}
-use Rattle.claims.proofs.Sheets.{against_ext}
+use Rattle.claims.proofs.Sheets.{against_ext, under_refused, under_accepted}
 use Rattle.analysis.specs.Column.{column_of}
 use Rattle.analysis.proofs.Column.{column-published}
 use Rattle.analysis.proofs.values.Refusing.{job-verdict}
@@ -47,19 +47,19 @@ module _ (h : Head) (d : List ℕ) (y : List ℤ) (w : ℕ) (M : ℤ) (claims : 
       ∙ sym (ap (λ (v : Verdict). checked_under v (comparison h d y w M claims claimed))
       (accepts e (test_yes (eqb (length claims) (objects h)) 15 0 (eq-eqb _ _ long))))
 
-pub returns-in_err-solved : goal.returns-in_err-solved
-returns-in_err-solved c =
+pub returns-in_err-under : goal.returns-in_err-under
+returns-in_err-under c =
     let a = c.args in
-    let why = c.in_err-solved.field-0.0 in
+    let why = c.in_err-under.field-0.0 in
     let told = ap (λ (r : Solved). r.verdict) (rw (to_z-of_z c.ranges.sum) at c.analyse-solved.ensures.value) ∙ job-verdict a.head a.blocks.now a.readings.now a.set a.sum in
-    let e = refused-job a.head a.blocks.now a.readings.now a.set a.sum a.claims.now a.claimed why.number why.place (sym told ∙ c.in_err-solved.was) in
+    let e = refused-job a.head a.blocks.now a.readings.now a.set a.sum a.claims.now a.claimed why.number why.place (sym told ∙ under_refused _ _ why (sym c.under.ensures ∙ c.in_err-under.was)) in
     rw (← e) (search rules)
 
 pub returns-then-claims-v : goal.returns-then-claims-v
 returns-then-claims-v c =
     let a = c.args in
     let told = ap (λ (r : Solved). r.verdict) (rw (to_z-of_z c.ranges.sum) at c.analyse-solved.ensures.value) ∙ job-verdict a.head a.blocks.now a.readings.now a.set a.sum in
-    let e = sym told ∙ c.in_ok-solved.was in
+    let e = sym told ∙ under_accepted _ _ _ (sym c.under.ensures ∙ c.in_ok-under.was) in
     let v : c.objects-v.result ≡ objects a.head = c.objects-v.ensures ∙ within-sizes _ _ (job a.head a.blocks.now a.readings.now a.set a.sum e).measures.design.sizes in
     wrong_length a.head a.blocks.now a.readings.now a.set a.sum a.claims.now a.claimed e (λ q. c.if-claims-v.true (q ∙ sym v))
 
@@ -73,7 +73,7 @@ returns c =
     let M = a.sum in
     let record-is = rw (to_z-of_z c.ranges.sum) at c.analyse-solved.ensures.value in
     let rooms = job-verdict h d y w M in
-    let e : job_verdict h d y w M ≡ accepted = sym (ap (λ (r : Solved). r.verdict) record-is ∙ rooms) ∙ c.in_ok-solved.was in
+    let e : job_verdict h d y w M ≡ accepted = sym (ap (λ (r : Solved). r.verdict) record-is ∙ rooms) ∙ under_accepted _ _ _ (sym c.under.ensures ∙ c.in_ok-under.was) in
     let first : analyse_verdict h d y w M 2600 50 1300 ≡ accepted = rooms ∙ e in
     let denominator = ap (λ (r : Solved). r.denominator) record-is ∙ given_yes (analyse_verdict h d y w M 2600 50 1300) (denominator_of h d w) 0 first in
     let spread = ap (λ (r : Solved). r.spreading.spread) record-is

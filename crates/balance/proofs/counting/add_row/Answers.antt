@@ -25,7 +25,7 @@ overflow_add-row c =
       row-most (opposition_of a.own a.other a.i) (λ k. product-most a.own a.other a.i k) l.rest a.other l.row a.row.now l.invariant.2 l.j,
       c.requires.1 l.j,
       product-most a.own a.other a.i l.j,
-      c.in_opposition.ensures,
+      c.meetings.ensures,
     )
 
 pub loop-j-smaller : goal.loop-j-smaller
@@ -42,7 +42,7 @@ loop-j-preserved c =
       c.lowest-j-in-loop-j.ensures,
       omega arith,
       walk_step (λ k x. x + opposition_of a.own a.other a.i k) l.rest l.row 0 some (omega arith) l.invariant.0 c.without_lowest-rest.ensures
-          (ap (λ (y : ℕ). get_or l.row l.j 0 + y) c.in_opposition.ensures) l.invariant.2,
+          (ap (λ (y : ℕ). get_or l.row l.j 0 + y) c.meetings.ensures) l.invariant.2,
     )
 
 pub returns : goal.returns

@@ -73,8 +73,11 @@ fn with_value(k: usize, line: &[u8], read: SheetRead) -> SheetRead
 fn with_spread(k: usize, line: &[u8], read: SheetRead) -> SheetRead
     ensures { result ≡ with_spread k line.now read }
 {
+    if read.spread.is_some() {
+        return unread(k, read);
+    }
     let claimed = spread(line);
-    if read.spread.is_some() || claimed.is_none() {
+    if claimed.is_none() {
         return unread(k, read);
     }
     SheetRead {

@@ -30,10 +30,10 @@ pub(crate) fn edition_of(file: &[u8]) -> Edition {
 // The first bytes of the file of a name, at most so many, or of standard input for `-`.
 fn read_file<'a>(rt: &HostRuntime, name: &'a [u8], most: usize) -> Result<Vec<u8>, Failure<'a>> {
     if matches!(name, b"-") {
-        return Ok(read_at_most(rt.alloc(), rt.stdin(), most as u64)?);
+        return Ok(read_at_most(rt.alloc(), rt.stdin(), most)?);
     }
     match open(rt, name) {
-        Ok(file) => Ok(read_at_most(rt.alloc(), file, most as u64)?),
+        Ok(file) => Ok(read_at_most(rt.alloc(), file, most)?),
         Err(error) => Err(Failure::Unopened(name, error)),
     }
 }

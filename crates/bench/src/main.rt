@@ -21,12 +21,14 @@ ghost use Rattle.std.specs.Prelude.{◌≡◌, ◌≤◌, length, take};
 ghost use Rattle.meaning.specs.Text.{text_of};
 
 use crate::failures::{Failure, say_failure};
-use crate::system::{arguments, read_at_most, say_line, write_output};
+use crate::system::{arguments, has_words, read_full, say_line, write_output};
 use crate::verbs::Verb;
 use std::alloc::AllocError;
 
 fn main(rt: HostRuntime) {
-    if run(&rt).is_err() {
+    if !has_words(&rt) {
+        list(&rt);
+    } else if run(&rt).is_err() {
         say_line(&rt, "bench: there is no memory left");
     }
 }
@@ -43,7 +45,7 @@ fn run(rt: &HostRuntime) -> Result<(), AllocError> {
 // What the first word after the program's name asks for.
 fn run_words<'a>(rt: &HostRuntime, words: &'a [Vec<u8>]) -> Result<(), Failure<'a>> {
     let [_, name, rest @ ..] = words else {
-        return Ok(list(rt)?);
+        return Ok(list(rt));
     };
     match Verb::named(name) {
         Some(Verb::Job) => carding::make_job(rt, rest),
@@ -57,15 +59,15 @@ fn run_words<'a>(rt: &HostRuntime, words: &'a [Vec<u8>]) -> Result<(), Failure<'
     }
 }
 
-// The listing of what stands on standard input.
-fn list(rt: &HostRuntime) -> Result<(), AllocError> {
-    let input = read_at_most(rt.alloc(), rt.stdin(), 8192)?;
+// The listing of what stands on standard input. It asks for no memory, so that it fails for none.
+fn list(rt: &HostRuntime) {
+    let mut input = [0u8; 8192];
+    let n = read_full(&mut rt.stdin(), &mut input);
     let mut text = [0u8; 65536];
-    let length = put_text(&input, &mut text);
+    let length = put_text(&input[..n], &mut text);
     if !write_output(rt, &text[..length]) {
         say_line(rt, "bench: the listing could not be written");
     }
-    Ok(())
 }
 
 // The text for a file at the front of `text`, and its length: what is printed. 64 KiB are room for every text.

@@ -21,24 +21,23 @@ pub(crate) fn pool<'a>(rt: &HostRuntime, names: &'a [Vec<u8>]) -> Result<(), Fai
     if names.is_empty() {
         return Err(Failure::Misused(Verb::Pool));
     }
-    let mut files = Vec::new(rt.alloc());
-    if names.len() <= POOL_LIMIT {
-        for name in names {
-            files.push(read_first_job(rt, name)?)?;
-        }
-    }
     let mut bytes = Vec::new(rt.alloc());
     let mut lengths = Vec::new(rt.alloc());
-    for file in files.iter() {
-        bytes.extend_from_slice(file)?;
-        lengths.push(file.len())?;
+    if names.len() <= POOL_LIMIT {
+        for name in names {
+            let file = read_first_job(rt, name)?;
+            bytes.extend_from_slice(&file)?;
+            lengths.push(file.len())?;
+        }
     }
     let pooled = job::pool(&bytes, &lengths);
     if let Err(why) = pooled.verdict {
         return Ok(refuse_job(rt, why, names.get(pooled.index))?);
     }
-    for (name, file) in names.iter().zip(files.iter()) {
-        put_job(rt, name, file)?;
+    let mut rest = &bytes[..];
+    for (name, length) in names.iter().zip(lengths.iter()) {
+        put_job(rt, name, rest.get(..*length).unwrap_or(rest))?;
+        rest = rest.get(*length..).unwrap_or(b"");
     }
     put_line(
         rt,

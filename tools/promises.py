@@ -49,8 +49,10 @@ def tables():
     """what public functions lack, and the tables"""
     short, page = [], []
     for crate in sources.crates():
-        every = {function.name: (function, path) for path, _ in sources.files(crate) for function in sources.functions(path)}
-        public = [name for name, (function, _) in every.items() if function.public]
+        own_functions = {function.name: (function, path) for path, _ in sources.files(crate) for function in sources.functions(path)}
+        public = [name for name, (function, _) in own_functions.items() if function.public]
+        # methods have no rows of their own, but functions go through them
+        every = {method.name: (method, path) for path, _ in sources.files(crate) for method in sources.methods(path)} | own_functions
         if not public or os.path.exists(f"crates/{crate}/src/main.rt"):
             continue
         calls = {name: {c for c in every if c != name and re.search(rf"\b{c}\(", function.code)} for name, (function, _) in every.items()}

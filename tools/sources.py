@@ -49,15 +49,20 @@ def clauses(contract, kind):
     return found
 
 
-def functions(path):
+def functions(path, indent=""):
     """the functions of a file, in its order; those of an `impl` are none"""
-    for start in re.finditer(r'^(pub (?:\(crate\) )?|pub\(crate\) )?(?:unsafe )?(?:extern "C" )?fn (\w+)(<[^>]*>)?(?=\()', read(path), re.M):
-        text = start.string[start.start() : start.string.index("\n}", start.start()) + 2]
+    for start in re.finditer(rf'^{indent}(pub (?:\(crate\) )?|pub\(crate\) )?(?:unsafe )?(?:extern "C" )?fn (\w+)(<[^>]*>)?(?=\()', read(path), re.M):
+        text = start.string[start.start() : start.string.index(f"\n{indent}}}", start.start()) + len(indent) + 2]
         end = closed(text, start.end() - start.start(), "()")
-        contract, _, code = text[end:].partition("\n{\n")
+        contract, _, code = text[end:].partition(f"\n{indent}{{\n")
         if not code:
             contract, _, code = text[end:].partition("{\n")
         inside = text[start.end() - start.start() + 1 : end - 1]
-        parameters = [p.split(":", 1) for p in re.split(r",\s*(?![^\[(<]*[\])>])", inside) if p.strip()]
-        parameters = [(name.replace("mut ", "").strip(), kind.strip()) for name, kind in parameters]
+        parameters = [p.partition(":") for p in re.split(r",\s*(?![^\[(<]*[\])>])", inside) if p.strip()]
+        parameters = [(name.replace("mut ", "").strip(), kind.strip()) for name, _, kind in parameters]
         yield Function(start[2], (start[1] or "").strip() == "pub", start[3], parameters, clauses(contract, "requires"), clauses(contract, "ensures"), code, text)
+
+
+def methods(path):
+    """the functions of the `impl` blocks of a file, in its order"""
+    return functions(path, "    ")
